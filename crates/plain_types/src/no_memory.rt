@@ -1,0 +1,19 @@
+//! The one error for want of memory.
+
+use std::alloc::{AllocError, AllocFailed};
+
+/// Memory was wanted and there was none. No contract says when that is.
+#[derive(Clone, Copy, Debug, PartialEq, Eq)]
+pub struct NoMemory;
+
+impl From<AllocError> for NoMemory {
+    fn from(_error: AllocError) -> NoMemory {
+        NoMemory
+    }
+}
+
+impl<T: Drop> From<AllocFailed<T>> for NoMemory {
+    fn from(_failed: AllocFailed<T>) -> NoMemory {
+        NoMemory
+    }
+}

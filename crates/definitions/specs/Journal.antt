@@ -1,0 +1,50 @@
+-- The plain journal: commands that began and commands that ended, in the order in which they were told.
+use Rattle.std.specs.Prelude.{ℕ, ℤ, List, [], ◌∷◌, Option, None, Bool, ◌==◌}
+use Rattle.std.specs.List.{list_any}
+
+-- a command that was begun, at a time in nanoseconds since 1970
+pub record StartedRecord : Type 0 where
+  pub id : ℕ
+  pub timestamp : ℕ
+  pub command : List ℕ
+  pub cwd : List ℕ
+  pub session : List ℕ
+  pub hostname : List ℕ
+
+-- a command that ended: its duration in nanoseconds and its exit status beside what its start told
+pub record HistoryRecord : Type 0 where
+  pub id : ℕ
+  pub timestamp : ℕ
+  pub duration : ℤ
+  pub exit : ℤ
+  pub command : List ℕ
+  pub cwd : List ℕ
+  pub session : List ℕ
+  pub hostname : List ℕ
+  pub deleted_at : Option ℕ
+
+pub data JournalEntry : Type 0 where
+  begun : StartedRecord → JournalEntry
+  ended : HistoryRecord → JournalEntry
+
+abbrev pub begun_in : List JournalEntry → List StartedRecord
+begun_in [] = []
+begun_in (begun s ∷ entries) = s ∷ begun_in entries
+begun_in (ended h ∷ entries) = begun_in entries
+
+abbrev pub ended_in : List JournalEntry → List HistoryRecord
+ended_in [] = []
+ended_in (begun s ∷ entries) = ended_in entries
+ended_in (ended h ∷ entries) = h ∷ ended_in entries
+
+-- some command with this id was begun, or has ended
+abbrev pub was_begun : ℕ → List JournalEntry → Bool
+was_begun id entries = list_any (λ (s : StartedRecord). s.id == id) (begun_in entries)
+
+abbrev pub has_ended : ℕ → List JournalEntry → Bool
+has_ended id entries = list_any (λ (h : HistoryRecord). h.id == id) (ended_in entries)
+
+-- what is kept of a command when it ends
+abbrev pub finished : StartedRecord → ℤ → ℤ → HistoryRecord
+finished s duration exit =
+    record { id = s.id; timestamp = s.timestamp; duration = duration; exit = exit; command = s.command; cwd = s.cwd; session = s.session; hostname = s.hostname; deleted_at = None }

@@ -1,0 +1,10 @@
+pub mod Spelling
+pub mod Calls
+pub mod Frames
+pub mod Ids
+pub mod Journal
+pub mod Search
+pub mod Replies
+pub mod Step
+pub mod Runs
+pub mod Reading

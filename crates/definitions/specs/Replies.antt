@@ -1,0 +1,54 @@
+-- Replies and their bytes: an array of 0, the front and the answer's item, or of the refusal's number, the front and its
+-- values. The front is the number of entries of the journal at which the call was answered.
+use Rattle.std.specs.Prelude.{ℕ, pos, List, ◌++◌, length}
+use Rattle.std.specs.List.{flat_map}
+use Rattle.definitions.specs.Spelling.{written_integer, written_text, written_array}
+use Rattle.definitions.specs.Ids.{id_text}
+use Rattle.definitions.specs.Journal.{HistoryRecord}
+
+pub data PlainAnswer : Type 0 where
+  -- the id of the command that was begun
+  began_id : ℕ → PlainAnswer
+  -- the index of the record that was stored, from 0
+  stored_index : ℕ → PlainAnswer
+  hit_list : List HistoryRecord → PlainAnswer
+  -- refusals 2, 5, 6, 8 and 9
+  unknown_id : ℕ → PlainAnswer
+  random_fault : PlainAnswer
+  id_taken : ℕ → PlainAnswer
+  no_memory : PlainAnswer
+  bad_request : ℕ → PlainAnswer
+
+pub record PlainReply : Type 0 where
+  pub front : ℕ
+  pub answer : PlainAnswer
+
+abbrev pub written_number : ℕ → List ℕ
+written_number n = written_integer (pos n)
+
+abbrev pub hit_item : HistoryRecord → List ℕ
+hit_item h =
+    written_array 8 ++ (written_text (id_text h.id) ++ (written_number h.timestamp ++ (written_integer h.duration ++ (written_integer h.exit
+    ++ (written_text h.command ++ (written_text h.cwd ++ (written_text h.session ++ written_text h.hostname)))))))
+
+abbrev pub ok_bytes : ℕ → List ℕ → List ℕ
+ok_bytes front item = written_array 3 ++ (written_number 0 ++ (written_number front ++ item))
+
+abbrev pub refusal_bytes : ℕ → ℕ → List ℕ
+refusal_bytes number front = written_array 2 ++ (written_number number ++ written_number front)
+
+abbrev pub refusal_of_bytes : ℕ → ℕ → List ℕ → List ℕ
+refusal_of_bytes number front value = written_array 3 ++ (written_number number ++ (written_number front ++ value))
+
+abbrev pub answer_bytes : ℕ → PlainAnswer → List ℕ
+answer_bytes front (began_id id) = ok_bytes front (written_text (id_text id))
+answer_bytes front (stored_index index) = ok_bytes front (written_number index)
+answer_bytes front (hit_list hits) = ok_bytes front (written_array (length hits) ++ flat_map hit_item hits)
+answer_bytes front (unknown_id id) = refusal_of_bytes 2 front (written_text (id_text id))
+answer_bytes front random_fault = refusal_bytes 5 front
+answer_bytes front (id_taken id) = refusal_of_bytes 6 front (written_text (id_text id))
+answer_bytes front no_memory = refusal_bytes 8 front
+answer_bytes front (bad_request place) = refusal_of_bytes 9 front (written_number place)
+
+abbrev pub reply_bytes : PlainReply → List ℕ
+reply_bytes reply = answer_bytes reply.front reply.answer

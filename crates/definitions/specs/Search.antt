@@ -1,0 +1,49 @@
+-- Search: which ended commands match, in which order they are shown, and how many of them.
+use Rattle.std.specs.Prelude.{◌≡◌, ℕ, ◌+◌, ◌≤◌, List, [], ◌∷◌, ◌++◌, map, length, drop, Bool, ◌&&◌, ◌||◌, cond, eqb, nat_lt, ◌==◌, ◌⊎◌}
+use Rattle.std.specs.List.{list_any, filter, starts_with, sum_by}
+use Rattle.std.specs.List.Sorted.{IsPermutation, IsSortedBy}
+use Rattle.std.specs.Char.{is_ascii_uppercase, to_ascii_lowercase}
+use Rattle.definitions.specs.Calls.{SearchMode, by_prefix, by_substring, SearchQuery}
+use Rattle.definitions.specs.Journal.{HistoryRecord}
+
+-- the texts of a page of hits together have at most this many bytes, unless it is a single hit
+abbrev pub most_hit_bytes : ℕ
+most_hit_bytes = 4194304
+
+-- Smart case: a query without ASCII capitals is compared with the command's ASCII letters folded, any other exactly.
+abbrev pub compared : List ℕ → List ℕ → List ℕ
+compared query command = cond (list_any is_ascii_uppercase query) command (map to_ascii_lowercase command)
+
+-- the query stands somewhere in the text
+abbrev pub stands_in : List ℕ → List ℕ → Bool
+stands_in query [] = starts_with eqb [] query
+stands_in query (byte ∷ text) = starts_with eqb (byte ∷ text) query || stands_in query text
+
+abbrev pub matches_by : SearchMode → List ℕ → List ℕ → Bool
+matches_by by_prefix query command = starts_with eqb (compared query command) query
+matches_by by_substring query command = stands_in query (compared query command)
+
+-- the newer command is shown first, and of two with one time the one with the lesser id
+abbrev pub is_shown_before : HistoryRecord → HistoryRecord → Bool
+is_shown_before a b = nat_lt b.timestamp a.timestamp || (a.timestamp == b.timestamp) && nat_lt a.id b.id
+
+abbrev pub hit_bytes : HistoryRecord → ℕ
+hit_bytes h = length h.command + length h.cwd + length h.session + length h.hostname
+
+-- hits that one reply may show
+abbrev pub FitsPage : ℕ → List HistoryRecord → Type 0
+FitsPage limit hits = (length hits ≤ limit) × ((length hits ≤ 1) ⊎ (sum_by hit_bytes hits ≤ most_hit_bytes))
+
+-- as many of the first hits as one reply may show
+pub record IsPage (limit : ℕ) (all page : List HistoryRecord) : Type 0 where
+  pub rest : List HistoryRecord
+  pub front : all ≡ page ++ rest
+  pub fits : FitsPage limit page
+  pub most : (next : HistoryRecord) (others : List HistoryRecord) → rest ≡ next ∷ others → FitsPage limit (page ++ next ∷ []) → ⊥
+
+-- the answer to a query: those that match, in order, without the first `offset`, and as many as fit
+pub record IsAnswer (query : SearchQuery) (entries page : List HistoryRecord) : Type 0 where
+  pub in_order : List HistoryRecord
+  pub matching : IsPermutation (filter (λ (h : HistoryRecord). matches_by query.mode query.text h.command) entries) in_order
+  pub sorted : IsSortedBy is_shown_before in_order
+  pub cut : IsPage query.limit (drop query.offset in_order) page

@@ -1,0 +1,73 @@
+-- What one request does to the plain journal, and its reply: one constructor for each way of answering.
+use Rattle.std.specs.Prelude.{◌≡◌, ℕ, ◌+◌, ℤ, List, [], ◌∷◌, ◌++◌, length, true, false}
+use Rattle.std.specs.List.{Contains}
+use Rattle.definitions.specs.Calls.{start_call, end_call, search_call, SearchQuery, SpellsCall, WrongAt}
+use Rattle.definitions.specs.Ids.{made_id}
+use Rattle.definitions.specs.Journal.{StartedRecord, HistoryRecord, JournalEntry, begun, ended, begun_in, ended_in, was_begun, has_ended, finished}
+use Rattle.definitions.specs.Search.{IsAnswer}
+use Rattle.definitions.specs.Replies.{PlainAnswer, began_id, stored_index, hit_list, unknown_id, random_fault, id_taken, no_memory, bad_request, PlainReply}
+
+-- what a call took of the outside: the clock's readings, the random bytes, and how many draws failed
+pub record Used : Type 0 where
+  pub readings : List ℕ
+  pub drawn : List ℕ
+  pub faults : ℕ
+
+abbrev pub used_nothing : Used
+used_nothing = record { readings = []; drawn = []; faults = 0 }
+
+abbrev pub then_used : Used → Used → Used
+then_used a b = record { readings = a.readings ++ b.readings; drawn = a.drawn ++ b.drawn; faults = a.faults + b.faults }
+
+-- a Start reads the clock once and then draws ten bytes; an End reads the clock once
+abbrev pub read_and_drew : ℕ → List ℕ → Used
+read_and_drew now drawn = record { readings = now ∷ []; drawn = drawn; faults = 0 }
+
+abbrev pub read_and_failed : ℕ → Used
+read_and_failed now = record { readings = now ∷ []; drawn = []; faults = 1 }
+
+abbrev pub read_clock : ℕ → Used
+read_clock now = record { readings = now ∷ []; drawn = []; faults = 0 }
+
+-- the answer of a call is given at the journal as it is then
+abbrev pub answered_at : List JournalEntry → PlainAnswer → PlainReply
+answered_at journal answer = record { front = length journal; answer = answer }
+
+-- a refused call leaves the journal
+pub record Refuses (old new : List JournalEntry) (reply : PlainReply) (answer : PlainAnswer) : Type 0 where
+  pub journal : new ≡ old
+  pub reply_is : reply ≡ answered_at old answer
+
+-- an answered call leaves this journal
+pub record Answers (made new : List JournalEntry) (reply : PlainReply) (answer : PlainAnswer) : Type 0 where
+  pub journal : new ≡ made
+  pub reply_is : reply ≡ answered_at made answer
+
+pub data Step (old : List JournalEntry) (payload : List ℕ) (used : Used) (reply : PlainReply) (new : List JournalEntry) : Type 0 where
+  -- the payload is no call
+  unread : (place : ℕ) → WrongAt payload place → used ≡ used_nothing → Refuses old new reply (bad_request place) → Step old payload used reply new
+  -- Start: no random bytes; the drawn id is that of a begun command; the command is begun
+  start_failed : (command cwd session hostname : List ℕ) (now : ℕ) → SpellsCall (start_call command cwd session hostname) payload
+      → used ≡ read_and_failed now → Refuses old new reply random_fault → Step old payload used reply new
+  start_taken : (command cwd session hostname : List ℕ) (now : ℕ) (drawn : List ℕ) → SpellsCall (start_call command cwd session hostname) payload → length drawn ≡ 10
+      → used ≡ read_and_drew now drawn → was_begun (made_id now drawn) old ≡ true → Refuses old new reply (id_taken (made_id now drawn)) → Step old payload used reply new
+  start_done : (command cwd session hostname : List ℕ) (now : ℕ) (drawn : List ℕ) → SpellsCall (start_call command cwd session hostname) payload → length drawn ≡ 10
+      → used ≡ read_and_drew now drawn → was_begun (made_id now drawn) old ≡ false
+      → Answers (old ++ begun (record { id = made_id now drawn; timestamp = now; command = command; cwd = cwd; session = session; hostname = hostname }) ∷ []) new reply (began_id (made_id now drawn))
+      → Step old payload used reply new
+  start_short : (command cwd session hostname : List ℕ) (now : ℕ) (drawn : List ℕ) → SpellsCall (start_call command cwd session hostname) payload → length drawn ≡ 10
+      → used ≡ read_and_drew now drawn → was_begun (made_id now drawn) old ≡ false → Refuses old new reply no_memory → Step old payload used reply new
+  -- End: no begun command has the id and hasn't ended; the command has ended
+  end_unbegun : (id : ℕ) (duration exit : ℤ) (now : ℕ) → SpellsCall (end_call id duration exit) payload → used ≡ read_clock now
+      → was_begun id old ≡ false → Refuses old new reply (unknown_id id) → Step old payload used reply new
+  end_again : (id : ℕ) (duration exit : ℤ) (now : ℕ) → SpellsCall (end_call id duration exit) payload → used ≡ read_clock now
+      → has_ended id old ≡ true → Refuses old new reply (unknown_id id) → Step old payload used reply new
+  end_done : (id : ℕ) (duration exit : ℤ) (now : ℕ) (s : StartedRecord) → SpellsCall (end_call id duration exit) payload → used ≡ read_clock now
+      → Contains (begun_in old) s → s.id ≡ id → has_ended id old ≡ false
+      → Answers (old ++ ended (finished s duration exit) ∷ []) new reply (stored_index (length (ended_in old))) → Step old payload used reply new
+  end_short : (id : ℕ) (duration exit : ℤ) (now : ℕ) → SpellsCall (end_call id duration exit) payload → used ≡ read_clock now
+      → was_begun id old ≡ true → has_ended id old ≡ false → Refuses old new reply no_memory → Step old payload used reply new
+  -- Search
+  searched : (query : SearchQuery) (hits : List HistoryRecord) → SpellsCall (search_call query) payload → used ≡ used_nothing
+      → IsAnswer query (ended_in old) hits → Answers old new reply (hit_list hits) → Step old payload used reply new
+  search_short : (query : SearchQuery) → SpellsCall (search_call query) payload → used ≡ used_nothing → Refuses old new reply no_memory → Step old payload used reply new

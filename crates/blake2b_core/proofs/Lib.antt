@@ -1,0 +1,5 @@
+pub mod Facts
+pub mod Compressing
+pub mod Blocks
+pub mod Holding
+pub mod Words

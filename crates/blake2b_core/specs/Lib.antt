@@ -1,0 +1,4 @@
+pub mod Constants
+pub mod Compression
+pub mod Hash
+pub mod Hashing

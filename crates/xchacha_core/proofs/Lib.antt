@@ -1,0 +1,3 @@
+mod Pieces
+mod Sums
+pub mod StreamLaws

@@ -91,12 +91,19 @@ SpellsArguments (kind ∷ kinds_after) (argument ∷ arguments_after) bytes =
     (first : List ℕ) × (rest : List ℕ) × IsOfKind kind argument × SpellsArgument argument first × SpellsArguments kinds_after arguments_after rest × (bytes ≡ first ++ rest)
 SpellsArguments _ _ bytes = ⊥
 
+-- an id has 128 bits
+abbrev pub IdFits : PlainCall → Type 0
+IdFits (start_call command cwd session hostname) = Unit {0}
+IdFits (end_call id duration exit) = id < 2 ^ 128
+IdFits (search_call query) = Unit {0}
+
 -- an array of the call's number and its arguments
 pub record SpellsCall (call : PlainCall) (payload : List ℕ) : Type 0 where
   pub header : List ℕ
   pub number : List ℕ
   pub rest : List ℕ
   pub all_kinds : List Kind
+  pub id_fits : IdFits call
   pub kinds_are : kinds (call_number call) ≡ Some all_kinds
   pub is_header : SpellsArray (1 + length all_kinds) header
   pub is_number : SpellsInteger (pos (call_number call)) number

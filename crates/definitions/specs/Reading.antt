@@ -1,8 +1,9 @@
 -- Reading from left to right, as code does. Nothing rests on these words alone: the laws of `proofs/` join them to
 -- what `Spelling` and `Calls` say.
-use Rattle.std.specs.Prelude.{ℕ, ◌+◌, ◌-◌, ◌^◌, ℤ, pos, negsuc, List, [], ◌∷◌, length, take, drop, Option, Some, None, Result, Ok, Err, Bool, true, false, is_some, ◌&&◌, ◌||◌, nat_lt, nat_le, ◌==◌, if◌then◌else◌}
+use Rattle.std.specs.Prelude.{ℕ, ◌+◌, ◌-◌, ◌*◌, ◌^◌, ℤ, pos, negsuc, List, [], ◌∷◌, length, take, drop, Option, Some, None, Result, Ok, Err, Bool, true, false, is_some, ◌&&◌, ◌||◌, nat_lt, nat_le, ◌==◌, if◌then◌else◌}
 use Rattle.std.specs.Int.{Width, w8, w16, w32, w64, byte_len, from_be_bytes, cast_signed}
-use Rattle.std.specs.List.{list_all}
+use Rattle.std.specs.List.{list_all, fold}
+use Rattle.std.specs.Char.{digit_value}
 use Rattle.std.specs.Str.{is_utf8}
 use Rattle.definitions.specs.Calls.{Argument, a_text, an_integer, Kind, any_text, empty_text, id_digits, signed_64, from_to, kinds}
 
@@ -61,6 +62,10 @@ is_lower_hex b = nat_le 48 b && nat_le b 57 || nat_le 97 b && nat_le b 102
 
 abbrev pub is_id_text : List ℕ → Bool
 is_id_text text = (length text == 32) && list_all is_lower_hex text
+
+-- the number that hexadecimal digits write
+unfoldable pub id_value : List ℕ → ℕ
+id_value digits = fold (λ (value digit : ℕ). value * 16 + digit_value digit) 0 digits
 
 abbrev pub fits_64 : ℤ → Bool
 fits_64 (pos n) = nat_lt n (2 ^ 63)

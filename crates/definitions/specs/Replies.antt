@@ -1,6 +1,6 @@
 -- Replies and their bytes: an array of 0, the front and the answer's item, or of the refusal's number, the front and its
 -- values. The front is the number of entries of the journal at which the call was answered.
-use Rattle.std.specs.Prelude.{ℕ, pos, List, ◌++◌, length}
+use Rattle.std.specs.Prelude.{ℕ, pos, List, ◌++◌, length, Bool, true, false}
 use Rattle.std.specs.List.{flat_map}
 use Rattle.definitions.specs.Spelling.{written_integer, written_text, written_array}
 use Rattle.definitions.specs.Ids.{id_text}
@@ -18,6 +18,16 @@ pub data PlainAnswer : Type 0 where
   id_taken : ℕ → PlainAnswer
   no_memory : PlainAnswer
   bad_request : ℕ → PlainAnswer
+
+abbrev pub is_refusal : PlainAnswer → Bool
+is_refusal (began_id id) = false
+is_refusal (stored_index index) = false
+is_refusal (hit_list hits) = false
+is_refusal (unknown_id id) = true
+is_refusal random_fault = true
+is_refusal (id_taken id) = true
+is_refusal no_memory = true
+is_refusal (bad_request place) = true
 
 pub record PlainReply : Type 0 where
   pub front : ℕ

@@ -1,8 +1,12 @@
 -- What spells an integer, a text and the header of an array: MessagePack, "Formats". Numbers stand in big order. Every
 -- width that holds a value spells it; the shortest is the one that is written.
-use Rattle.std.specs.Prelude.{◌≡◌, ℕ, ◌+◌, ◌<◌, ◌^◌, ℤ, pos, negsuc, FitsSigned, List, [], ◌∷◌, ◌++◌, length, nat_lt, if◌then◌else◌}
+use Rattle.std.specs.Prelude.{◌≡◌, ℕ, ◌+◌, ◌<◌, ◌^◌, ℤ, pos, negsuc, FitsSigned, List, [], ◌∷◌, ◌++◌, length, slice_index, nat_lt, if◌then◌else◌}
 use Rattle.std.specs.Int.{Width, w8, w16, w32, w64, to_be_bytes, cast_unsigned}
 use Rattle.std.specs.Str.{IsUtf8}
+
+-- each of the numbers is a byte
+abbrev pub IsBytes : List ℕ → Type 0
+IsBytes bytes = (i : ℕ) → slice_index bytes i < 256
 
 -- ---- integers: "int format family"
 
@@ -61,6 +65,15 @@ integer_bytes int_64 z = marked 0xd3 w64 z
 abbrev pub SpellsInteger : ℤ → List ℕ → Type 0
 SpellsInteger z bytes = (form : IntegerForm) × FitsInteger form z × (bytes ≡ integer_bytes form z)
 
+-- the bytes spell some integer
+abbrev pub IsInteger : List ℕ → Type 0
+IsInteger bytes = (z : ℤ) × SpellsInteger z bytes
+
+-- the integers that have a spelling: -2^63 to 2^64-1
+abbrev pub IsSpellable : ℤ → Type 0
+IsSpellable (pos n) = n < 2 ^ 64
+IsSpellable (negsuc n) = n < 2 ^ 63
+
 -- the shortest form, an unsigned one for a number that is not negative
 abbrev pub shortest_unsigned : ℕ → IntegerForm
 shortest_unsigned n = if nat_lt n (2 ^ 7) then positive_fixint else (if nat_lt n (2 ^ 8) then uint_8 else (if nat_lt n (2 ^ 16) then uint_16 else (if nat_lt n (2 ^ 32) then uint_32 else uint_64)))
@@ -101,6 +114,10 @@ pub record SpellsText (text bytes : List ℕ) : Type 0 where
   pub utf8 : IsUtf8 text
   pub are : bytes ≡ text_head form (length text) ++ text
 
+-- the bytes spell some text
+abbrev pub IsText : List ℕ → Type 0
+IsText bytes = (text : List ℕ) × SpellsText text bytes
+
 abbrev pub shortest_text : ℕ → TextForm
 shortest_text n = if nat_lt n (2 ^ 5) then fixstr else (if nat_lt n (2 ^ 8) then str_8 else (if nat_lt n (2 ^ 16) then str_16 else str_32))
 
@@ -127,6 +144,10 @@ array_head array_32 n = 0xdd ∷ to_be_bytes w32 n
 -- the bytes spell the header of an array of n items
 abbrev pub SpellsArray : ℕ → List ℕ → Type 0
 SpellsArray n bytes = (form : ArrayForm) × (n < array_limit form) × (bytes ≡ array_head form n)
+
+-- the bytes spell the header of some array
+abbrev pub IsArray : List ℕ → Type 0
+IsArray bytes = (n : ℕ) × SpellsArray n bytes
 
 abbrev pub shortest_array : ℕ → ArrayForm
 shortest_array n = if nat_lt n (2 ^ 4) then fixarray else (if nat_lt n (2 ^ 16) then array_16 else array_32)

@@ -1,6 +1,7 @@
 -- What one request does to the plain journal, and its reply: one constructor for each way of answering.
-use Rattle.std.specs.Prelude.{◌≡◌, ℕ, ◌+◌, ℤ, List, [], ◌∷◌, ◌++◌, length, true, false}
-use Rattle.std.specs.List.{Contains}
+use Rattle.std.specs.Prelude.{◌≡◌, ℕ, ◌+◌, ◌<◌, ◌^◌, ℤ, List, [], ◌∷◌, ◌++◌, length, true, false}
+use Rattle.std.specs.List.{All, Contains}
+use Rattle.definitions.specs.Spelling.{IsBytes}
 use Rattle.definitions.specs.Calls.{start_call, end_call, search_call, SearchQuery, SpellsCall, WrongAt}
 use Rattle.definitions.specs.Ids.{made_id}
 use Rattle.definitions.specs.Journal.{StartedRecord, HistoryRecord, JournalEntry, begun, ended, begun_in, ended_in, was_begun, has_ended, finished}
@@ -18,6 +19,10 @@ used_nothing = record { readings = []; drawn = []; faults = 0 }
 
 abbrev pub then_used : Used → Used → Used
 then_used a b = record { readings = a.readings ++ b.readings; drawn = a.drawn ++ b.drawn; faults = a.faults + b.faults }
+
+-- readings of 64 bits, and bytes
+abbrev pub UsedFits : Used → Type 0
+UsedFits used = All (λ (now : ℕ). now < 2 ^ 64) used.readings × IsBytes used.drawn
 
 -- a Start reads the clock once and then draws ten bytes; an End reads the clock once
 abbrev pub read_and_drew : ℕ → List ℕ → Used

@@ -6,3 +6,25 @@
 //! requests (`Runs`) do to a journal. `Reading` reads from left to right, as code does; nothing rests on it alone.
 //! No word names a type of the crates above: each mirrors what it needs by a small record of numbers and lists.
 #![tactic(auto)]
+
+mod call_laws;
+mod frame_laws;
+mod run_laws;
+mod spelling_laws;
+
+pub use call_laws::{
+    a_made_id_is_of_version_7, a_payload_is_one_call_or_wrong_at_one_place,
+    an_id_prints_and_is_read_back, reading_finds_the_call_or_the_place,
+};
+pub use frame_laws::{
+    a_limited_stream_is_cut_in_one_way, a_stream_is_cut_in_one_way, a_whole_input_ends_in_one_way,
+};
+pub use run_laws::{
+    a_run_answers_each_payload, a_run_leaves_a_sound_journal, a_run_leaves_one_journal,
+    a_search_has_one_answer, a_step_has_one_outcome, runs_follow_one_another,
+};
+pub use spelling_laws::{
+    no_kind_begins_another, no_spelling_begins_another,
+    no_spelling_is_shorter_than_the_written_one, what_is_read_is_spelled, what_is_spelled_is_read,
+    what_is_written_is_spelled,
+};

@@ -1,0 +1,14 @@
+pub mod Bytes
+pub mod Spelling
+pub mod Runs
+pub mod Frames
+pub mod Ids
+pub mod Items
+pub mod Calls
+pub mod Among
+pub mod Search
+pub mod Steps
+pub mod Examples
+pub mod Outcomes
+pub mod Determined
+pub mod Ranges

@@ -1,0 +1,12 @@
+pub mod Counts
+pub mod Taking
+pub mod Writing
+pub mod Coming
+pub mod Drawing
+pub mod Telling
+pub mod Storing
+pub mod Linking
+pub mod Planned
+pub mod MemoryForms
+pub mod MemoryViews
+pub mod ClockViews

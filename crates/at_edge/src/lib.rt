@@ -1,0 +1,39 @@
+//! The outside of the program: bytes that come and go, random bytes, the clock, a disk and a link to a peer.
+//!
+//! Model: each trait shows one record of what is seen of the object (`SourceSeen`, `SinkSeen`, `EntropySeen`,
+//! `ClockSeen`, `DiskSeen`, `LinkSeen`), and each method has one clause that relates the record before the call, the
+//! answer, and the record after it. What an object doesn't tell is `None` there, and nothing is claimed of it.
+//!
+//! Promise: each form here, in memory or over the real thing, meets its trait. Bytes are given once and in order, a
+//! write counts what it took, a failure comes only where the object's count of faults rose in that call, and no count
+//! falls. What a real file, clock or random source does is trusted: the forms over them tell no content.
+//!
+//! It stands on std alone.
+#![tactic(auto)]
+
+mod absent;
+mod ending;
+mod faults;
+mod fixed_clock;
+mod memory_entropy;
+mod memory_sink;
+mod memory_source;
+mod over_std;
+mod supply;
+mod traits;
+mod whole;
+
+pub use absent::{AbsentDisk, AbsentLink};
+pub use ending::{Served, SessionFail};
+pub use fixed_clock::FixedClock;
+pub use memory_entropy::{ListEntropy, SureEntropy};
+pub use memory_sink::{MemSink, SureSink};
+pub use memory_source::{MemSource, SureSource};
+pub use over_std::{ReadSource, SystemClock, SystemEntropy, WriteSink};
+pub use traits::{
+    Clock, Disk, DiskFault, Entropy, Got, Link, LinkFault, RandFault, Sink, Source, Took,
+};
+pub use whole::{Filled, WriteFault, fill, write_all};
+
+#[cfg(test)]
+mod tests;

@@ -1,0 +1,14 @@
+use Rattle.std.proofs.Common.{ℕ, List, Bor, arith}
+use Rattle.definitions.specs.Spelling.{SpellsArray}
+use Rattle.definitions.specs.Reading.{array_at}
+use Rattle.definitions.proofs.Spelling.{arrays_read}
+use Rattle.msgpack_fields.proofs.Fronts.{found_is_spelled, none_is_spelled}
+use Rattle.msgpack_fields.proofs.items.array_of.Goals as goal
+
+pub returns-clause-spelled : goal.returns-clause-spelled
+returns-clause-spelled c =
+    found_is_spelled ℕ (ℕ × Bor (List ℕ)) array_at SpellsArray arrays_read (λ x. (x.0, x.1.now)) c.args.bytes.now c.array_at_front.result (λ i. omega (arith, c.type_inv.bytes i)) c.array_at_front.ensures.value
+
+pub returns-clause-none : goal.returns-clause-none
+returns-clause-none c =
+    none_is_spelled ℕ (ℕ × Bor (List ℕ)) array_at SpellsArray arrays_read (λ x. (x.0, x.1.now)) c.args.bytes.now c.array_at_front.result c.array_at_front.ensures.value

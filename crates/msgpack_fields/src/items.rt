@@ -1,0 +1,150 @@
+//! The item at the front of some bytes, and the bytes behind it.
+
+ghost use Rattle.std.specs.Prelude.{◌≡◌, ◌<◌, ◌≤◌, ◌^◌, length, option_map, IfSome, IfNone};
+ghost use Rattle.std.specs.Int.{w8, w16, w32, w64};
+ghost use Rattle.std.specs.Str.{is_utf8, IsUtf8};
+ghost use Rattle.definitions.specs.Spelling.{SpellsInteger, IsInteger, IsSpellable, SpellsText, IsText, SpellsArray, IsArray};
+ghost use Rattle.definitions.specs.Reading.{wide_at, integer_at, text_head_at, text_at, array_at};
+ghost use Rattle.definitions.specs.Calls.{NoFront};
+ghost use Rattle.msgpack_fields.specs.Reading.{BeginsWith};
+
+fn u8_of(bytes: &[u8]) -> Option<(u8, &[u8])>
+    ensures value { option_map (λ x. (x.0, x.1.now)) result ≡ wide_at w8 bytes.now }
+    ensures shorter { IfSome result (λ x. length x.1.now ≤ length bytes.now) }
+{
+    let (number, rest) = bytes.split_first_chunk::<1>()?;
+    Some((u8::from_be_bytes(*number), rest))
+}
+
+fn u16_of(bytes: &[u8]) -> Option<(u16, &[u8])>
+    ensures value { option_map (λ x. (x.0, x.1.now)) result ≡ wide_at w16 bytes.now }
+    ensures shorter { IfSome result (λ x. length x.1.now ≤ length bytes.now) }
+{
+    let (number, rest) = bytes.split_first_chunk::<2>()?;
+    Some((u16::from_be_bytes(*number), rest))
+}
+
+fn u32_of(bytes: &[u8]) -> Option<(u32, &[u8])>
+    ensures value { option_map (λ x. (x.0, x.1.now)) result ≡ wide_at w32 bytes.now }
+    ensures shorter { IfSome result (λ x. length x.1.now ≤ length bytes.now) }
+{
+    let (number, rest) = bytes.split_first_chunk::<4>()?;
+    Some((u32::from_be_bytes(*number), rest))
+}
+
+fn u64_of(bytes: &[u8]) -> Option<(u64, &[u8])>
+    ensures value { option_map (λ x. (x.0, x.1.now)) result ≡ wide_at w64 bytes.now }
+    ensures shorter { IfSome result (λ x. length x.1.now ≤ length bytes.now) }
+{
+    let (number, rest) = bytes.split_first_chunk::<8>()?;
+    Some((u64::from_be_bytes(*number), rest))
+}
+
+/// Whether the bytes are UTF-8.
+fn is_text(bytes: &[u8]) -> bool
+    ensures { result ≡ is_utf8 bytes.now }
+{
+    std::str::from_utf8(bytes).is_ok()
+}
+
+#[tactic(auto, unfolding(definitions::specs::Reading::integer_at))]
+fn integer_at_front(bytes: &[u8]) -> Option<(i128, &[u8])>
+    ensures value { option_map (λ x. (x.0, x.1.now)) result ≡ integer_at bytes.now }
+    ensures shorter { IfSome result (λ x. length x.1.now ≤ length bytes.now) }
+{
+    let (first, rest) = bytes.split_first()?;
+    match *first {
+        0x00..=0x7f => Some((i128::from(*first), rest)),
+        0xe0..=0xff => Some((i128::from(*first) - 256, rest)),
+        0xcc => u8_of(rest).map(|(number, rest)| (i128::from(number), rest)),
+        0xcd => u16_of(rest).map(|(number, rest)| (i128::from(number), rest)),
+        0xce => u32_of(rest).map(|(number, rest)| (i128::from(number), rest)),
+        0xcf => u64_of(rest).map(|(number, rest)| (i128::from(number), rest)),
+        0xd0 => u8_of(rest).map(|(number, rest)| (i128::from(number.cast_signed()), rest)),
+        0xd1 => u16_of(rest).map(|(number, rest)| (i128::from(number.cast_signed()), rest)),
+        0xd2 => u32_of(rest).map(|(number, rest)| (i128::from(number.cast_signed()), rest)),
+        0xd3 => u64_of(rest).map(|(number, rest)| (i128::from(number.cast_signed()), rest)),
+        _ => None,
+    }
+}
+
+/// The length in the head of a text, and what stands behind the head.
+#[tactic(auto, unfolding(definitions::specs::Reading::text_head_at))]
+fn text_head_of(bytes: &[u8]) -> Option<(u32, &[u8])>
+    ensures value { option_map (λ x. (x.0, x.1.now)) result ≡ text_head_at bytes.now }
+    ensures shorter { IfSome result (λ x. length x.1.now ≤ length bytes.now) }
+{
+    let (first, rest) = bytes.split_first()?;
+    match *first {
+        0xa0..=0xbf => Some((u32::from(*first - 0xa0), rest)),
+        0xd9 => u8_of(rest).map(|(length, rest)| (u32::from(length), rest)),
+        0xda => u16_of(rest).map(|(length, rest)| (u32::from(length), rest)),
+        0xdb => u32_of(rest),
+        _ => None,
+    }
+}
+
+#[tactic(auto, unfolding(definitions::specs::Reading::text_at))]
+fn text_at_front(bytes: &[u8]) -> Option<(&[u8], &[u8])>
+    ensures value { option_map (λ x. (x.0.now, x.1.now)) result ≡ text_at bytes.now }
+    ensures shorter { IfSome result (λ x. length x.1.now ≤ length bytes.now) }
+{
+    let (length, rest) = text_head_of(bytes)?;
+    let length = length as usize;
+    if rest.len() < length {
+        return None;
+    }
+    let (text, rest) = rest.split_at(length);
+    if is_text(text) {
+        Some((text, rest))
+    } else {
+        None
+    }
+}
+
+#[tactic(auto, unfolding(definitions::specs::Reading::array_at))]
+fn array_at_front(bytes: &[u8]) -> Option<(u32, &[u8])>
+    ensures value { option_map (λ x. (x.0, x.1.now)) result ≡ array_at bytes.now }
+    ensures shorter { IfSome result (λ x. length x.1.now ≤ length bytes.now) }
+{
+    let (first, rest) = bytes.split_first()?;
+    match *first {
+        0x90..=0x9f => Some((u32::from(*first - 0x90), rest)),
+        0xdc => u16_of(rest).map(|(count, rest)| (u32::from(count), rest)),
+        0xdd => u32_of(rest),
+        _ => None,
+    }
+}
+
+/// The integer at the front, in any of its spellings, and what stands behind it.
+pub fn integer_of(bytes: &[u8]) -> Option<(i128, &[u8])>
+    ensures spelled { IfSome result (λ x. BeginsWith (SpellsInteger x.0) bytes.now x.1.now) }
+    ensures none { IfNone result (NoFront IsInteger bytes.now) }
+    ensures range { IfSome result (λ x. IsSpellable x.0) }
+    ensures value { option_map (λ x. (x.0, x.1.now)) result ≡ integer_at bytes.now }
+    ensures shorter { IfSome result (λ x. length x.1.now ≤ length bytes.now) }
+{
+    integer_at_front(bytes)
+}
+
+/// The text at the front, in any of its spellings, and what stands behind it.
+pub fn text_of(bytes: &[u8]) -> Option<(&[u8], &[u8])>
+    ensures spelled { IfSome result (λ x. BeginsWith (SpellsText x.0.now) bytes.now x.1.now) }
+    ensures none { IfNone result (NoFront IsText bytes.now) }
+    ensures utf8 { IfSome result (λ x. IsUtf8 x.0.now) }
+    ensures short { IfSome result (λ x. length x.0.now < 2 ^ 32) }
+    ensures value { option_map (λ x. (x.0.now, x.1.now)) result ≡ text_at bytes.now }
+    ensures shorter { IfSome result (λ x. length x.1.now ≤ length bytes.now) }
+{
+    text_at_front(bytes)
+}
+
+/// The number of items in the header of an array at the front, in any of its spellings, and what stands behind it.
+pub fn array_of(bytes: &[u8]) -> Option<(u32, &[u8])>
+    ensures spelled { IfSome result (λ x. BeginsWith (SpellsArray x.0) bytes.now x.1.now) }
+    ensures none { IfNone result (NoFront IsArray bytes.now) }
+    ensures value { option_map (λ x. (x.0, x.1.now)) result ≡ array_at bytes.now }
+    ensures shorter { IfSome result (λ x. length x.1.now ≤ length bytes.now) }
+{
+    array_at_front(bytes)
+}

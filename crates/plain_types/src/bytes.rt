@@ -1,6 +1,6 @@
 //! A growing run of bytes.
 
-ghost use Rattle.std.specs.Prelude.{◌≡◌, ◌≤◌, ◌+◌, [], ◌∷◌, ◌++◌, length, take, ◌==◌, IfOk, IsOk, OnOk, OnErr};
+ghost use Rattle.std.specs.Prelude.{◌≡◌, ◌≤◌, ◌+◌, [], ◌∷◌, ◌++◌, length, take, drop, ◌==◌, IfOk, IsOk, OnOk, OnErr};
 
 use crate::no_memory::NoMemory;
 use std::alloc::Global;
@@ -20,6 +20,13 @@ impl Model for Bytes {
     ghost Value = { Buffer };
 
     ghost view = { λ b. record { items = b.inner.items; reserved = vec_capacity b.inner } };
+}
+
+fn write_front(bytes: &mut [u8], front: &[u8])
+    requires { length front.now ≤ length bytes.old }
+    ensures { bytes.new ≡ front.now ++ drop (length front.now) bytes.old }
+{
+    bytes[..front.len()].copy_from_slice(front);
 }
 
 impl Bytes {
@@ -123,6 +130,15 @@ impl Bytes {
         ensures reserved { self.old.reserved ≤ self.new.reserved }
     {
         self.inner.truncate(len);
+    }
+
+    /// Writes `front` over the first bytes, which are at least as many.
+    pub fn overwrite_front(&mut self, front: &[u8])
+        requires { length front.now ≤ length self.old.items }
+        ensures items { self.new.items ≡ front.now ++ drop (length front.now) self.old.items }
+        ensures reserved { self.old.reserved ≤ self.new.reserved }
+    {
+        write_front(self.inner.as_mut_slice(), front);
     }
 
     /// A copy of `from`.

@@ -1,0 +1,7 @@
+pub mod EntryLaws
+pub mod Digits
+pub mod SearchLaws
+pub mod Steps
+pub mod Requests
+pub mod ReplyLaws
+pub mod Calls

@@ -1,0 +1,45 @@
+-- What the parts of a request ask.
+use Rattle.std.specs.Prelude.{ℕ, ◌<◌, ◌^◌, List, length}
+use Rattle.std.specs.Str.{IsUtf8}
+use Rattle.definitions.specs.Calls.{SearchQuery, PlainCall, start_call, end_call, search_call}
+use Rattle.definitions.specs.Journal.{StartedRecord}
+use Rattle.record_model.specs.Seen.{mode_seen}
+use Rattle.daemon_core.specs.declared.reading.StartParts.{StartParts}
+use Rattle.daemon_core.specs.declared.reading.EndParts.{EndParts}
+use Rattle.daemon_core.specs.declared.reading.SearchParts.{SearchParts}
+use Rattle.daemon_core.specs.declared.reading.Request.{Request}
+use Rattle.daemon_core.specs.declared.reading.Request.TheVariants.{Start, End, Search}
+
+abbrev pub start_asked : StartParts → PlainCall
+start_asked p = start_call p.command.now p.cwd.now p.session.now p.hostname.now
+
+abbrev pub end_asked : EndParts → PlainCall
+end_asked p = end_call p.id p.duration p.exit
+
+abbrev pub query_asked : SearchParts → SearchQuery
+query_asked p = record { mode = mode_seen p.mode; text = p.text.now; offset = p.offset; limit = p.limit }
+
+abbrev pub asked : Request → PlainCall
+asked (Start p) = start_asked p
+asked (End p) = end_asked p
+asked (Search p) = search_call (query_asked p)
+
+-- a part that may become a text
+abbrev pub IsText : List ℕ → Type 0
+IsText text = IsUtf8 text × (length text < 2 ^ 32)
+
+pub record AreTexts (p : StartParts) : Type 0 where
+  pub command : IsText p.command.now
+  pub cwd : IsText p.cwd.now
+  pub session : IsText p.session.now
+  pub hostname : IsText p.hostname.now
+
+-- the command that begins under an id at a time
+abbrev pub started_of : StartParts → ℕ → ℕ → StartedRecord
+started_of p id now = record { id = id; timestamp = now; command = p.command.now; cwd = p.cwd.now; session = p.session.now; hostname = p.hostname.now }
+
+-- the texts of a request that a journal keeps
+abbrev pub HasTexts : Request → Type 0
+HasTexts (Start p) = AreTexts p
+HasTexts (End p) = Unit {0}
+HasTexts (Search p) = Unit {0}

@@ -1,0 +1,207 @@
+// Which ended commands a search shows.
+ghost use Rattle.std.specs.Prelude.{◌≡◌, ◌+◌, ◌<◌, ◌≤◌, ◌^◌, [], ◌∷◌, ◌++◌, length, map, take, drop, ◌==◌, ◌⊎◌, IfOk, OnOk, OnErr};
+ghost use Rattle.std.specs.Bool.{OnTrue, OnFalse};
+ghost use Rattle.std.specs.List.{list_any};
+ghost use Rattle.std.specs.List.Sorted.{IsPermutation, IsSortedBy};
+ghost use Rattle.std.specs.Ordering.{is_lt};
+ghost use Rattle.std.specs.Char.{is_ascii_uppercase, to_ascii_lowercase};
+ghost use Rattle.definitions.specs.Journal.{ended_in};
+ghost use Rattle.definitions.specs.Search.{stands_in, matches_by, is_shown_before, hit_bytes, most_hit_bytes, IsPage, IsAnswer};
+ghost use Rattle.record_model.specs.Seen.{mode_seen, history_seen, histories_seen};
+ghost use Rattle.daemon_core.specs.Entries.{entries_seen};
+ghost use Rattle.daemon_core.specs.Requests.{query_asked};
+ghost use Rattle.daemon_core.specs.Hits.{hits_of, matched, stands_by};
+
+use crate::journal::PlainEntry;
+use crate::reading::SearchParts;
+use plain_types::NoMemory;
+use record_model::{Histories, History, Mode};
+use std::alloc::Global;
+use std::cmp::Ordering;
+
+/// The most bytes that the texts of one page have together, unless it is a single hit.
+const MOST_HIT_BYTES: u64 = 4_194_304;
+
+/// The ended commands that match, the newest first, without the first `offset` of them, and as many as one reply shows.
+pub(crate) fn page(
+    alloc: Global,
+    entries: &[PlainEntry],
+    query: &SearchParts<'_>,
+) -> Result<Histories, NoMemory>
+    ensures answer { IfOk result (λ hits. IsAnswer (query_asked query.now) (ended_in (entries_seen entries.now)) (histories_seen hits)) }
+    ensures counted { IfOk result (λ hits. length hits < 2 ^ 32) }
+{
+    let mut found = matching(alloc, entries, query)?;
+    put_in_order(&mut found);
+    let shown = behind(found.as_slice(), query.offset);
+    copies(alloc, fitting(shown, query.limit))
+}
+
+/// The ended commands that match, in the order in which they ended.
+fn matching<'a>(
+    alloc: Global,
+    entries: &'a [PlainEntry],
+    query: &SearchParts<'_>,
+) -> Result<Vec<&'a History>, NoMemory>
+    ensures { IfOk result (λ found. hits_of found.items ≡ matched (query_asked query.now) entries.now) }
+{
+    let mut found = Vec::new(alloc);
+    for entry in entries {
+        add_match(alloc, &mut found, entry, query)?;
+    }
+    Ok(found)
+}
+
+/// Puts the command behind the others if it has ended and matches.
+fn add_match<'a>(
+    alloc: Global,
+    found: &mut Vec<&'a History>,
+    entry: &'a PlainEntry,
+    query: &SearchParts<'_>,
+) -> Result<(), NoMemory>
+    ensures { OnOk result (hits_of found.new.items ≡ hits_of found.old.items ++ matched (query_asked query.now) (entry.now ∷ [])) }
+{
+    if let PlainEntry::Ended(history) = entry {
+        if matches(alloc, query, history.command.as_bytes())? {
+            found.push(history)?;
+        }
+    }
+    Ok(())
+}
+
+/// Whether the command matches, with smart case.
+fn matches(alloc: Global, query: &SearchParts<'_>, command: &[u8]) -> Result<bool, NoMemory>
+    ensures { IfOk result (λ b. b ≡ matches_by (mode_seen query.now.mode) query.now.text.now command.now) }
+{
+    if has_capital(query.text) {
+        return Ok(stands(query.mode, query.text, command));
+    }
+    let folded = lower_case(alloc, command)?;
+    Ok(stands(query.mode, query.text, &folded))
+}
+
+fn has_capital(text: &[u8]) -> bool
+    ensures { result ≡ list_any is_ascii_uppercase text.now }
+{
+    text.iter().any(|byte| byte.is_ascii_uppercase())
+}
+
+/// The text with its ASCII letters in lower case.
+fn lower_case(alloc: Global, text: &[u8]) -> Result<Vec<u8>, NoMemory>
+    ensures { IfOk result (λ v. v.items ≡ map to_ascii_lowercase text.now) }
+{
+    Ok(
+        text.iter()
+            .map(|byte| byte.to_ascii_lowercase())
+            .collect(alloc)?,
+    )
+}
+
+/// Whether the query stands at the front of the text, or anywhere in it.
+fn stands(mode: Mode, query: &[u8], text: &[u8]) -> bool
+    ensures { result ≡ stands_by (mode_seen mode) query.now text.now }
+{
+    match mode {
+        Mode::Prefix => text.starts_with(query),
+        Mode::Substring => stands_anywhere(query, text),
+    }
+}
+
+fn stands_anywhere(query: &[u8], text: &[u8]) -> bool
+    ensures { result ≡ stands_in query.now text.now }
+{
+    for start in 0..text.len() {
+        if part_from(text, start).starts_with(query) {
+            return true;
+        }
+    }
+    query.is_empty()
+}
+
+#[tactic(auto, using(crate::proofs::SearchLaws::whole_rest))]
+fn part_from(text: &[u8], start: usize) -> &[u8]
+    requires { start ≤ length text.now }
+    ensures { result.now ≡ drop start text.now }
+{
+    &text[start..]
+}
+
+/// The newest first, and of two with one time the one with the lesser id.
+fn put_in_order(hits: &mut Vec<&History>)
+    ensures permutation { IsPermutation (hits_of hits.old.items) (hits_of hits.new.items) }
+    ensures sorted { IsSortedBy is_shown_before (hits_of hits.new.items) }
+{
+    hits.sort_unstable_by(|a, b| shown_order(a, b));
+}
+
+fn shown_order(a: &History, b: &History) -> Ordering
+    ensures { is_lt result ≡ is_shown_before (history_seen a.now) (history_seen b.now) }
+{
+    b.timestamp.cmp(&a.timestamp).then(a.id.cmp(&b.id))
+}
+
+/// The hits without the first `offset` of them.
+#[tactic(auto, using(crate::proofs::SearchLaws::whole_rest, crate::proofs::SearchLaws::drop_past))]
+fn behind<'b, 'a>(hits: &'b [&'a History], offset: u32) -> &'b [&'a History]
+    ensures { result.now ≡ drop offset hits.now }
+{
+    let start = offset as usize;
+    if start <= hits.len() {
+        &hits[start..]
+    } else {
+        &[]
+    }
+}
+
+/// As many of the first hits as one reply may show.
+fn fitting<'b, 'a>(hits: &'b [&'a History], limit: u32) -> &'b [&'a History]
+    ensures page { IsPage limit (hits_of hits.now) (hits_of result.now) }
+    ensures counted { length result.now < 2 ^ 32 }
+{
+    let count = fitting_count(hits, limit);
+    &hits[..count]
+}
+
+fn fitting_count(hits: &[&History], limit: u32) -> usize
+    ensures within { result ≤ length hits.now }
+    ensures page { IsPage limit (hits_of hits.now) (hits_of (take result hits.now)) }
+{
+    let mut bytes = 0u64;
+    for (index, hit) in hits.iter().enumerate() {
+        let after = bytes + text_bytes(hit);
+        if !may_go_on(index, limit, after) {
+            return index;
+        }
+        bytes = after;
+    }
+    hits.len()
+}
+
+/// Whether a page of `count` hits may have one more, with which its texts have `bytes` bytes.
+fn may_go_on(count: usize, limit: u32, bytes: u64) -> bool
+    ensures yes { OnTrue result ((count < limit) × ((count ≡ 0) ⊎ (bytes ≤ most_hit_bytes))) }
+    ensures no { OnFalse result ((limit ≤ count) ⊎ ((0 < count) × (most_hit_bytes < bytes))) }
+{
+    count < limit as usize && (count == 0 || bytes <= MOST_HIT_BYTES)
+}
+
+/// The number of bytes of a hit's texts.
+fn text_bytes(hit: &History) -> u64
+    ensures value { result ≡ hit_bytes (history_seen hit.now) }
+    ensures below { result < 2 ^ 34 }
+{
+    hit.command.len() as u64
+        + hit.cwd.len() as u64
+        + hit.session.len() as u64
+        + hit.hostname.len() as u64
+}
+
+fn copies(alloc: Global, hits: &[&History]) -> Result<Histories, NoMemory>
+    ensures { IfOk result (λ copied. histories_seen copied ≡ hits_of hits.now) }
+{
+    let mut copied = Vec::new(alloc);
+    for hit in hits {
+        copied.push(hit.copy(alloc)?)?;
+    }
+    Ok(Histories::from_vec(copied))
+}

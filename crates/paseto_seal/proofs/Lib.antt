@@ -1,0 +1,10 @@
+pub mod Base64UrlLaws
+pub mod Bytes
+pub mod CipherLaws
+pub mod Derived
+pub mod HashLaws
+pub mod Opening
+pub mod Parts
+pub mod Pieces
+pub mod Tags
+pub mod Unwrapping

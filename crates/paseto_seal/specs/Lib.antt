@@ -1,0 +1,6 @@
+pub mod Base64Url
+pub mod Pae
+pub mod Token
+pub mod Wrap
+pub mod KeyId
+pub mod Fails

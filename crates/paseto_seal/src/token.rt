@@ -1,0 +1,137 @@
+// PASETO v4.local tokens.
+
+ghost use Rattle.std.specs.Prelude.{◌≡◌, ◌<◌, ◌≤◌, ◌+◌, ◌^◌, ◌++◌, ℕ, List, length, IfOk, IsErrOf, MatchResult};
+ghost use Rattle.paseto_seal.specs.Token.{token_cipher, token_tag, token_body, token, IsTokenForm, Opens};
+
+use crate::carried::{carried, carry};
+use crate::cipher::apply_cipher;
+use crate::fail::TokenFail;
+use crate::hash::{hash_encoded, hash_pieces};
+use crate::sizes::{NONCE_BYTES, TAG_BYTES};
+use crate::tag::same_tag;
+use plain_types::{Bytes, NoMemory, Text};
+use std::alloc::Global;
+
+const TOKEN_HEADER: &str = "v4.local.";
+
+/// A copy of the text, xored with the key stream of a token: a message's ciphertext, or a ciphertext's message.
+fn ciphered(alloc: Global, key: &[u8; 32], nonce: &[u8], text: &[u8]) -> Result<Vec<u8>, NoMemory>
+    requires { length text.now < 2 ^ 32 }
+    ensures { IfOk result (λ copy. copy.items ≡ token_cipher key.now nonce.now text.now) }
+{
+    let mut secrets = [0u8; 56];
+    hash_pieces(key, &[b"paseto-encryption-key", nonce], &mut secrets);
+    let mut copy = Vec::from_slice(alloc, text)?;
+    apply_cipher(&secrets, &mut copy);
+    Ok(copy)
+}
+
+/// The tag of a token.
+fn token_tag(key: &[u8; 32], nonce: &[u8], cipher: &[u8], implicit: &[u8]) -> [u8; 32]
+    ensures { result ≡ token_tag key.now nonce.now cipher.now implicit.now }
+{
+    let mut auth_key = [0u8; 32];
+    hash_pieces(key, &[b"paseto-auth-key-for-aead", nonce], &mut auth_key);
+    let mut tag = [0u8; 32];
+    hash_encoded(
+        &auth_key,
+        &[TOKEN_HEADER.as_bytes(), nonce, cipher, b"", implicit],
+        &mut tag,
+    );
+    tag
+}
+
+/// The bytes of a token behind its header.
+fn token_body(
+    alloc: Global,
+    key: &[u8; 32],
+    nonce: &[u8; 32],
+    message: &[u8],
+    implicit: &[u8],
+) -> Result<Vec<u8>, NoMemory>
+    requires { length message.now < 2 ^ 31 }
+    ensures { IfOk result (λ body. body.items ≡ token_body key.now nonce.now message.now implicit.now) }
+{
+    let cipher = ciphered(alloc, key, nonce, message)?;
+    let tag = token_tag(key, nonce, cipher.as_slice(), implicit);
+    let mut body = Vec::with_capacity(alloc, NONCE_BYTES + message.len() + TAG_BYTES)?;
+    body.extend_from_slice(nonce)?;
+    body.extend_from_slice(cipher.as_slice())?;
+    body.extend_from_slice(&tag)?;
+    Ok(body)
+}
+
+/// A nonce, a ciphertext and a tag, as they stand behind a token's header.
+fn parts(body: &[u8]) -> (&[u8], &[u8], &[u8])
+    requires { 64 ≤ length body.now }
+    ensures whole { body.now ≡ result.0.now ++ (result.1.now ++ result.2.now) }
+    ensures nonce { length result.0.now ≡ 32 }
+    ensures tag { length result.2.now ≡ 32 }
+{
+    let (nonce, rest) = body.split_at(NONCE_BYTES);
+    let (cipher, tag) = rest.split_at(rest.len() - TAG_BYTES);
+    (nonce, cipher, tag)
+}
+
+/// The token of `message` under `key`, with `nonce` and the implicit assertion `implicit` (PASETO, Version 4, "Encrypt",
+/// with an empty footer): `v4.local.` and then base64url of the nonce, the ciphertext and the tag. A nonce serves one
+/// token of a key and no second one, which is the caller's to see to. `message` is below 2^31 bytes, so that the text is
+/// below 2^32; `implicit` is of any length.
+///
+/// # Errors
+///
+/// [`NoMemory`].
+#[tactic(auto, unfolding(crate::specs::Token::token))]
+pub fn lock_token(
+    alloc: Global,
+    key: &[u8; 32],
+    nonce: &[u8; 32],
+    message: &[u8],
+    implicit: &[u8],
+) -> Result<Text, NoMemory>
+    requires { length message.now < 2 ^ 31 }
+    ensures { IfOk result (λ text. text ≡ token key.now nonce.now message.now implicit.now) }
+{
+    let body = token_body(alloc, key, nonce, message, implicit)?;
+    carry(alloc, TOKEN_HEADER, body.as_slice())
+}
+
+/// The message whose token under `key` and the implicit assertion `implicit` this is (PASETO, Version 4, "Decrypt",
+/// with an empty footer). `token` is below 2^32 bytes; `implicit` is of any length. At most one message has the token.
+///
+/// The tag is compared whole, and nothing is deciphered before it is found equal.
+///
+/// # Errors
+///
+/// - [`TokenFail::NotToken`] exactly where the text isn't `v4.local.` and then the unpadded base64url, with zeros for
+///   its spare bits, of at least 64 bytes. A text with a footer is none.
+/// - [`TokenFail::BadTag`] exactly where it is, and no message has it as its token under this key and assertion.
+/// - [`TokenFail::NoMemory`], in place of any other answer.
+pub fn open_token(
+    alloc: Global,
+    key: &[u8; 32],
+    token: &[u8],
+    implicit: &[u8],
+) -> Result<Bytes, TokenFail>
+    requires { length token.now < 2 ^ 32 }
+    ensures ok { IfOk result (λ message. Opens key.now token.now implicit.now message.items) }
+    ensures opens { (message : List ℕ) → Opens key.now token.now implicit.now message
+        → MatchResult result (λ opened. opened.items ≡ message) (λ fail. fail ≡ TokenFail.NoMemory) }
+    ensures not_token { IsErrOf result TokenFail.NotToken → ¬ IsTokenForm token.now }
+    ensures bad_tag { IsErrOf result TokenFail.BadTag
+        → IsTokenForm token.now × ((message : List ℕ) → ¬ Opens key.now token.now implicit.now message) }
+{
+    let body = carried(alloc, TOKEN_HEADER, token)?;
+    if body.len() < NONCE_BYTES + TAG_BYTES {
+        return Err(TokenFail::NotToken);
+    }
+    let (nonce, cipher, tag) = parts(body.as_slice());
+    let expected = token_tag(key, nonce, cipher, implicit);
+    if !same_tag(&expected, tag) {
+        return Err(TokenFail::BadTag);
+    }
+    match ciphered(alloc, key, nonce, cipher) {
+        Ok(message) => Ok(Bytes::from_vec(message)),
+        Err(NoMemory) => Err(TokenFail::NoMemory),
+    }
+}

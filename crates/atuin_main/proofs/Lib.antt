@@ -1,0 +1,4 @@
+pub mod FrameParts
+pub mod Turns
+pub mod Sessions
+pub mod Inputs

@@ -1,13 +1,14 @@
 // The journal of plain commands, and what is looked up in it.
 ghost use Rattle.std.specs.Prelude.{◌≡◌, [], ◌∷◌, ◌++◌, length, false, true, MatchOption, OnOk, OnErr, count_by};
 ghost use Rattle.std.specs.List.{Contains, list_any};
-ghost use Rattle.definitions.specs.Journal.{begun_in, ended_in, was_begun, has_ended};
-ghost use Rattle.record_model.specs.Seen.{started_seen};
-ghost use Rattle.daemon_core.specs.Entries.{entry_seen, entries_seen, begins_under, ends_under, is_ended};
+ghost use Rattle.definitions.specs.Journal.{begun, ended, begun_in, ended_in, was_begun, has_ended};
+ghost use Rattle.record_model.specs.Seen.{started_seen, history_seen};
+ghost use Rattle.daemon_core.specs.Entries.{entries_seen, begins_under, ends_under, is_ended};
 
 use plain_types::NoMemory;
 use record_model::{History, Started};
 use std::alloc::Global;
+use std::collections::BTreeSet;
 use std::marker::Model;
 
 /// What the journal keeps of one command.
@@ -24,6 +25,8 @@ pub enum PlainEntry {
 #[derive(Debug, Drop)]
 pub struct PlainJournal {
     entries: Vec<PlainEntry>,
+    // The ids under which commands were begun: a Start asks for one, and costs the same however long the journal is.
+    begun_ids: BTreeSet<u128>,
 }
 
 impl Model for PlainJournal {
@@ -34,6 +37,10 @@ impl Model for PlainJournal {
     ghost Value = { List JournalEntry };
 
     ghost view = { λ j. entries_seen j.entries.items };
+
+    ghost use Rattle.daemon_core.specs.Entries.{KeepsIds};
+
+    ghost invariant = { λ j. KeepsIds j.begun_ids j.entries.items };
 }
 
 impl PlainJournal {
@@ -43,6 +50,7 @@ impl PlainJournal {
     {
         PlainJournal {
             entries: Vec::new(alloc),
+            begun_ids: BTreeSet::new(alloc),
         }
     }
 
@@ -60,31 +68,37 @@ impl PlainJournal {
         self.entries.as_slice()
     }
 
-    /// Puts an entry behind the others. Where there is no memory for it the journal stays as it was.
-    pub(crate) fn push(&mut self, entry: PlainEntry) -> Result<(), NoMemory>
-        ensures ok { OnOk result (self.new ≡ self.old ++ entry_seen entry ∷ []) }
+    /// Whether a command was begun under this id.
+    #[tactic(auto, using(crate::proofs::EntryLaws::was_begun_seen))]
+    pub(crate) fn was_begun(&self, id: u128) -> bool
+        ensures { result ≡ was_begun id self.now }
+    {
+        self.begun_ids.contains(&id)
+    }
+
+    /// Puts a command that was begun behind the other entries. Where there is no memory for it the journal stays as it
+    /// was.
+    pub(crate) fn push_begun(&mut self, started: Started) -> Result<(), NoMemory>
+        ensures ok { OnOk result (self.new ≡ self.old ++ begun (started_seen started) ∷ []) }
         ensures err { OnErr result (self.new ≡ self.old) }
     {
-        self.entries.push(entry)?;
+        self.entries.try_reserve(1)?;
+        self.begun_ids.insert(started.id)?;
+        match self.entries.push(PlainEntry::Started(started)) {
+            Ok(()) => Ok(()),
+            Err(_) => unreachable!(),
+        }
+    }
+
+    /// Puts a command that has ended behind the other entries. Where there is no memory for it the journal stays as it
+    /// was.
+    pub(crate) fn push_ended(&mut self, history: History) -> Result<(), NoMemory>
+        ensures ok { OnOk result (self.new ≡ self.old ++ ended (history_seen history) ∷ []) }
+        ensures err { OnErr result (self.new ≡ self.old) }
+    {
+        self.entries.push(PlainEntry::Ended(history))?;
         Ok(())
     }
-}
-
-/// Whether a command was begun under this id.
-#[tactic(auto, using(crate::proofs::EntryLaws::was_begun_seen))]
-pub(crate) fn was_begun_under(entries: &[PlainEntry], id: u128) -> bool
-    ensures { result ≡ was_begun id (entries_seen entries.now) }
-{
-    any_begins_under(entries, id)
-}
-
-fn any_begins_under(entries: &[PlainEntry], id: u128) -> bool
-    ensures { result ≡ list_any (begins_under id) entries.now }
-{
-    entries.iter().any(|entry| match entry {
-        PlainEntry::Started(started) => started.id == id,
-        PlainEntry::Ended(_) => false,
-    })
 }
 
 /// Whether a command with this id has ended.

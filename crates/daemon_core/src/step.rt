@@ -8,9 +8,7 @@ ghost use Rattle.daemon_core.specs.Requests.{AreTexts, start_asked, end_asked, q
 ghost use Rattle.daemon_core.specs.Answering.{Starts, Ends, Stores, IsShort, IsCounted};
 
 use crate::ids::new_id;
-use crate::journal::{
-    PlainEntry, PlainJournal, begun_under, ended_count, has_ended_under, was_begun_under,
-};
+use crate::journal::{PlainJournal, begun_under, ended_count, has_ended_under};
 use crate::reading::{EndParts, SearchParts, StartParts};
 use crate::search::page;
 use at_edge::{Clock, Entropy, RandFault};
@@ -37,7 +35,7 @@ pub(crate) fn start<E: Entropy, C: Clock>(
         Err(RandFault) => return refused(journal, Refusal::RandFault),
     }
     let id = new_id(now, &drawn);
-    if was_begun_under(journal.entries(), id) {
+    if journal.was_begun(id) {
         return refused(journal, Refusal::IdTaken { id });
     }
     match begin(alloc, journal, id, now, parts) {
@@ -59,7 +57,7 @@ fn begin(
     ensures err { OnErr result (journal.new ≡ journal.old) }
 {
     let started = begun_command(alloc, id, now, parts)?;
-    journal.push(PlainEntry::Started(started))
+    journal.push_begun(started)
 }
 
 fn begun_command(
@@ -110,7 +108,7 @@ fn store(journal: &mut PlainJournal, history: History) -> Reply
     ensures { Stores journal.old journal.new (history_seen history) (reply_seen result) }
 {
     let idx = ended_count(journal.entries());
-    match journal.push(PlainEntry::Ended(history)) {
+    match journal.push_ended(history) {
         Ok(()) => answered(journal, Answer::Stored { idx }),
         Err(NoMemory) => refused(journal, Refusal::NoMemory),
     }

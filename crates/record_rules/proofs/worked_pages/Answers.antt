@@ -1,0 +1,5 @@
+use Rattle.record_rules.proofs.Examples.{pages}
+use Rattle.record_rules.proofs.worked_pages.Goals as goal
+
+pub returns : goal.returns
+returns c = pages

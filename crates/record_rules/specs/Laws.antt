@@ -1,0 +1,108 @@
+-- The laws of the journal, of growth and of answers, as statements. Each is the contract of the function of its name.
+use Rattle.std.specs.Prelude.{◌≡◌, ◌≢◌, ℕ, ◌<◌, ◌≤◌, ◌⊎◌, List, [], ◌∷◌, ◌++◌, length, map, filter, take, drop, min, All, None, Ok, Err}
+use Rattle.record_rules.specs.Limits.{most_page_records, most_page_weight}
+use Rattle.record_rules.specs.Records.{SealedRecord, Caller, Entry, Taken, page_weight}
+use Rattle.record_rules.specs.Journal.{own, own_events, records_of, in_place, chain, IsNumbered, TotalsFit, held_of, Ascends, status, count_at, Sound, MayFollow}
+use Rattle.record_rules.specs.Growth.{PageRefusal, PageTooLong, PageForked, IsFront, Stands, GoOn, taken_entry, fresh_of, first_too_long, batch_or, grow, grown}
+use Rattle.record_rules.specs.Answers.{page, IsLongestFront, OwnerRequest, reply_to, Asked, replies, asked_by, told_to}
+
+-- a journal without entries is sound
+abbrev pub EmptyIsSound : Type 0
+EmptyIsSound = (host : ℕ) → Sound [] host
+
+-- an entry that may follow a sound journal leaves it sound
+abbrev pub EntryKeepsSound : Type 0
+EntryKeepsSound = (journal : List Entry) (host : ℕ) (entry : Entry) → Sound journal host → MayFollow journal host entry.event → Sound (journal ++ entry ∷ []) host
+
+-- and only such an entry does: a sound journal is sound without its last entry, which may follow
+abbrev pub SoundEntryFollows : Type 0
+SoundEntryFollows = (journal : List Entry) (host : ℕ) (entry : Entry) → Sound (journal ++ entry ∷ []) host → Sound journal host × MayFollow journal host entry.event
+
+-- the front of a sound journal is sound
+abbrev pub FrontIsSound : Type 0
+FrontIsSound = (journal more : List Entry) (host : ℕ) → Sound (journal ++ more) host → Sound journal host
+
+-- a status tells the length of each chain, and lists no empty one
+abbrev pub StatusTellsLengths : Type 0
+StatusTellsLengths = (journal : List Entry) (owner host : ℕ) (tag : List ℕ) → count_at (status journal owner) host tag ≡ length (chain journal owner host tag)
+
+abbrev pub StatusListsNoEmpty : Type 0
+StatusListsNoEmpty = (journal : List Entry) (owner : ℕ) → All (λ listed. 0 < listed.count) (status journal owner)
+
+-- a status is in order of host, then tag, and no place comes twice
+abbrev pub StatusAscends : Type 0
+StatusAscends = (journal : List Entry) (owner : ℕ) → Ascends (map (λ listed. record { host = listed.host; tag = listed.tag }) (status journal owner))
+
+-- owners whose chains are as long have one status
+abbrev pub LengthsMakeStatus : Type 0
+LengthsMakeStatus = (journal other : List Entry) (owner whose : ℕ) → ((host : ℕ) (tag : List ℕ) → length (chain journal owner host tag) ≡ length (chain other whose host tag)) → status journal owner ≡ status other whose
+
+-- a page is the longest front within its weight of the next records, at most `count` and at most 100 of them
+abbrev pub PageIsLongest : Type 0
+PageIsLongest = (journal : List Entry) (owner host : ℕ) (tag : List ℕ) (start count : ℕ) → IsLongestFront most_page_weight (take (min count most_page_records) (drop start (chain journal owner host tag))) (page journal owner host tag start count)
+
+-- a page leaves a sound journal sound, whether it is taken or refused
+abbrev pub GrowthKeepsSound : Type 0
+GrowthKeepsSound = (journal : List Entry) (host : ℕ) (caller : Caller) (owner : ℕ) (records : List SealedRecord) → Sound journal host → Sound (grown journal (grow journal caller owner records)) host
+
+-- a refused page leaves the journal as it was
+abbrev pub RefusalLeavesAll : Type 0
+RefusalLeavesAll = (journal : List Entry) (caller : Caller) (owner : ℕ) (records : List SealedRecord) (refusal : PageRefusal) → grow journal caller owner records ≡ Err refusal → grown journal (grow journal caller owner records) ≡ journal
+
+-- a page that is taken has at most 100 records and at most the weight of a page
+abbrev pub TakenPageFits : Type 0
+TakenPageFits = (journal : List Entry) (caller : Caller) (owner : ℕ) (records : List SealedRecord) (batch : List Entry) → grow journal caller owner records ≡ Ok batch → (length records ≤ most_page_records) × (page_weight records ≤ most_page_weight)
+
+-- the next records of a chain are taken whole where a page may be so long and heavy and the owner has room for them
+abbrev pub NextPageIsTaken : Type 0
+NextPageIsTaken = (journal : List Entry) (caller : Caller) (owner host : ℕ) (tag : List ℕ) (records : List SealedRecord) → IsNumbered (chain journal owner host tag) → GoOn host tag (length (chain journal owner host tag)) records → first_too_long [] records ≡ None → TotalsFit (held_of (own_events journal owner ++ map (Taken owner) records)) → grow journal caller owner records ≡ Ok (map (taken_entry caller owner) records)
+
+-- a page that goes on behind 100 records that would be taken is too long at position 100
+abbrev pub RecordsPastHundred : Type 0
+RecordsPastHundred = (journal : List Entry) (caller : Caller) (owner : ℕ) (records more : List SealedRecord) (r : SealedRecord) (batch : List Entry) → grow journal caller owner records ≡ Ok batch → length records ≡ most_page_records → grow journal caller owner (records ++ r ∷ more) ≡ Err (PageTooLong most_page_records (page_weight (records ++ r ∷ [])))
+
+-- a page that is taken puts its fresh records behind the owner's chains, in order
+abbrev pub GrowthExtendsChains : Type 0
+GrowthExtendsChains = (journal : List Entry) (caller : Caller) (owner host : ℕ) (tag : List ℕ) (records : List SealedRecord) (batch : List Entry) → grow journal caller owner records ≡ Ok batch → chain (journal ++ batch) owner host tag ≡ chain journal owner host tag ++ filter (in_place host tag) (fresh_of (records_of (own_events journal owner)) records)
+
+-- and leaves what everyone else holds
+abbrev pub GrowthLeavesOthers : Type 0
+GrowthLeavesOthers = (journal : List Entry) (caller : Caller) (owner other : ℕ) (records : List SealedRecord) → owner ≢ other → own_events (grown journal (grow journal caller owner records)) other ≡ own_events journal other
+
+-- after a page was taken each of its records stands
+abbrev pub GrowthHoldsPage : Type 0
+GrowthHoldsPage = (journal : List Entry) (caller : Caller) (owner : ℕ) (records : List SealedRecord) (batch : List Entry) → grow journal caller owner records ≡ Ok batch → All (Stands (records_of (own_events (journal ++ batch) owner))) records
+
+-- a page that was taken is taken again and adds nothing, in whoever's call
+abbrev pub RepeatAddsNothing : Type 0
+RepeatAddsNothing = (journal : List Entry) (first again : Caller) (owner : ℕ) (records : List SealedRecord) (batch : List Entry) → grow journal first owner records ≡ Ok batch → grow (journal ++ batch) again owner records ≡ Ok []
+
+-- a page whose records all stand adds nothing, and only its own length, weight and texts can refuse it
+abbrev pub StandingAddsNothing : Type 0
+StandingAddsNothing = (journal : List Entry) (caller : Caller) (owner : ℕ) (records : List SealedRecord) → All (Stands (records_of (own_events journal owner))) records → grow journal caller owner records ≡ batch_or [] (first_too_long [] records)
+
+-- an owner is told the same at two journals in which it holds the same
+abbrev pub RepliesAlike : Type 0
+RepliesAlike = (owner : ℕ) (request : OwnerRequest) (journal like : List Entry) → own_events journal owner ≡ own_events like owner → reply_to journal owner request ≡ reply_to like owner request
+
+-- among the requests of all owners each owner is told what its requests alone are told, at any journal in which it holds the same
+abbrev pub RepliesAlone : Type 0
+RepliesAlone = (owner : ℕ) (requests : List Asked) (journal like : List Entry) → own_events journal owner ≡ own_events like owner → told_to owner (replies journal requests) ≡ replies like (asked_by owner requests)
+
+-- and what they alone would be told in a journal in which no one else has an entry
+abbrev pub RepliesAsAlone : Type 0
+RepliesAsAlone = (owner : ℕ) (requests : List Asked) (journal : List Entry) → told_to owner (replies journal requests) ≡ replies (own journal owner) (asked_by owner requests)
+
+-- In what follows `origin` is a whole chain of one host and tag, of which the owner's chain is a front, and the page is any slice of it.
+
+-- such a page is never refused as a fork
+abbrev pub SliceNeverForks : Type 0
+SliceNeverForks = (journal : List Entry) (caller : Caller) (owner host : ℕ) (tag : List ℕ) (origin : List SealedRecord) (start count position id : ℕ) → GoOn host tag 0 origin → IsFront (chain journal owner host tag) origin → grow journal caller owner (take count (drop start origin)) ≡ Err (PageForked position id) → ⊥
+
+-- and where it is taken, the owner's chain is still a front of the origin
+abbrev pub SliceKeepsFront : Type 0
+SliceKeepsFront = (journal : List Entry) (of_host : ℕ) (caller : Caller) (owner host : ℕ) (tag : List ℕ) (origin : List SealedRecord) (start count : ℕ) (batch : List Entry) → Sound journal of_host → GoOn host tag 0 origin → IsFront (chain journal owner host tag) origin → grow journal caller owner (take count (drop start origin)) ≡ Ok batch → IsFront (chain (journal ++ batch) owner host tag) origin
+
+-- and the owner's other chains stay as they were
+abbrev pub SliceLeavesOtherChains : Type 0
+SliceLeavesOtherChains = (journal : List Entry) (caller : Caller) (owner host : ℕ) (tag : List ℕ) (origin : List SealedRecord) (start count other_host : ℕ) (other_tag : List ℕ) (batch : List Entry) → GoOn host tag 0 origin → (host ≢ other_host) ⊎ (tag ≢ other_tag) → grow journal caller owner (take count (drop start origin)) ≡ Ok batch → chain (journal ++ batch) owner other_host other_tag ≡ chain journal owner other_host other_tag

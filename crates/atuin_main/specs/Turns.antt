@@ -4,14 +4,13 @@ use Rattle.std.specs.Int.{w32, to_be_bytes}
 use Rattle.std.specs.Io.KnownBytes.{IsAtEnd}
 use Rattle.definitions.specs.Frames.{frame, most_payload_bytes, CutFrame}
 use Rattle.definitions.specs.Journal.{JournalEntry}
-use Rattle.definitions.specs.Replies.{PlainReply}
-use Rattle.definitions.specs.Step.{Used, UsedFits, Step}
-use Rattle.at_edge.specs.Counts.{Rose, RoseBy}
+use Rattle.at_edge.specs.Counts.{Rose}
 use Rattle.at_edge.specs.Taking.{SourceSeen, Gave}
 use Rattle.at_edge.specs.Writing.{SinkSeen, Holds, Stopped}
-use Rattle.at_edge.specs.Drawing.{EntropySeen, Drew}
-use Rattle.at_edge.specs.Telling.{ClockSeen, Told}
-use Rattle.atuin_main.specs.Sessions.{reply_frame, FrameFront}
+use Rattle.at_edge.specs.Drawing.{EntropySeen}
+use Rattle.at_edge.specs.Telling.{ClockSeen}
+use Rattle.daemon_core.specs.Answering.{AnswersPlain}
+use Rattle.atuin_main.specs.Sessions.{FrameFront}
 use Rattle.atuin_main.specs.declared.frames.LengthRead.{LengthRead}
 use Rattle.atuin_main.specs.declared.frames.LengthRead.TheVariants as lengths
 use Rattle.atuin_main.specs.declared.frames.FrameRead.{FrameRead}
@@ -46,16 +45,11 @@ ReadsFrame reads.Cut old new buffer = (part : List ℕ) × CutFrame part × Gave
 ReadsFrame (reads.TooLong n) old new buffer = Gave old new (to_be_bytes w32 n) × (most_payload_bytes < n) × (n < 2 ^ 32)
 ReadsFrame reads.Failed old new buffer = (part : List ℕ) × FrameFront part × Gave old new part × Rose old.faults new.faults
 
--- a payload was read and answered by one step
-pub record Answered (payload : List ℕ) (reply : PlainReply) (source_old source_new : SourceSeen) (rand_old rand_new : EntropySeen) (clock_old clock_new : ClockSeen) (old new : List JournalEntry) : Type 0 where
-  pub used : Used
+-- A payload was read and answered, by a reply of these bytes.
+pub record Answered (payload reply_is : List ℕ) (source_old source_new : SourceSeen) (rand_old rand_new : EntropySeen) (clock_old clock_new : ClockSeen) (old new : List JournalEntry) : Type 0 where
   pub short : length payload ≤ most_payload_bytes
-  pub step : Step old payload used reply new
   pub taken : Gave source_old source_new (frame payload)
-  pub fits : UsedFits used
-  pub drew : Drew rand_old rand_new used.drawn
-  pub failed : RoseBy used.faults rand_old.faults rand_new.faults
-  pub told : Told clock_old clock_new used.readings
+  pub answer : AnswersPlain rand_old rand_new clock_old clock_new old new payload [] reply_is
 
 -- nothing but the source was touched, which gave a part of a frame
 pub record Unanswered (part : List ℕ) (source_old source_new : SourceSeen) (sink_old sink_new : SinkSeen) (rand_old rand_new : EntropySeen) (clock_old clock_new : ClockSeen) (old new : List JournalEntry) : Type 0 where
@@ -65,23 +59,17 @@ pub record Unanswered (part : List ℕ) (source_old source_new : SourceSeen) (si
   pub clock : clock_new ≡ clock_old
   pub journal : new ≡ old
 
--- a payload was answered by one step, and the reply's frame is this
-pub record AnswersFrame (rand_old rand_new : EntropySeen) (clock_old clock_new : ClockSeen) (old new : List JournalEntry) (payload reply_is : List ℕ) : Type 0 where
-  pub used : Used
-  pub reply : PlainReply
-  pub step : Step old payload used reply new
-  pub fits : UsedFits used
-  pub drew : Drew rand_old rand_new used.drawn
-  pub failed : RoseBy used.faults rand_old.faults rand_new.faults
-  pub told : Told clock_old clock_new used.readings
-  pub framed : reply_is ≡ reply_frame reply
+-- a payload was answered, and the reply's frame is this
+abbrev pub AnswersFrame : EntropySeen → EntropySeen → ClockSeen → ClockSeen → List JournalEntry → List JournalEntry → List ℕ → List ℕ → Type 0
+AnswersFrame rand_old rand_new clock_old clock_new old new payload framed =
+    (reply_is : List ℕ) × AnswersPlain rand_old rand_new clock_old clock_new old new payload [] reply_is × (framed ≡ frame reply_is)
 
 -- what one turn of a session did
 abbrev pub TakesTurn : Turn → SourceSeen → SourceSeen → SinkSeen → SinkSeen → EntropySeen → EntropySeen → ClockSeen → ClockSeen → List JournalEntry → List JournalEntry → Type 0
 TakesTurn (turns.Answered n) source_old source_new sink_old sink_new rand_old rand_new clock_old clock_new old new =
-    (payload : List ℕ) × (reply : PlainReply) × Answered payload reply source_old source_new rand_old rand_new clock_old clock_new old new × (length payload ≡ n) × Holds sink_old sink_new (reply_frame reply)
+    (payload : List ℕ) × (reply_is : List ℕ) × Answered payload reply_is source_old source_new rand_old rand_new clock_old clock_new old new × (length payload ≡ n) × Holds sink_old sink_new (frame reply_is)
 TakesTurn turns.SinkFailed source_old source_new sink_old sink_new rand_old rand_new clock_old clock_new old new =
-    (payload : List ℕ) × (reply : PlainReply) × (count : ℕ) × Answered payload reply source_old source_new rand_old rand_new clock_old clock_new old new × Stopped sink_old sink_new (reply_frame reply) count
+    (payload : List ℕ) × (reply_is : List ℕ) × (count : ℕ) × Answered payload reply_is source_old source_new rand_old rand_new clock_old clock_new old new × Stopped sink_old sink_new (frame reply_is) count
 TakesTurn turns.End source_old source_new sink_old sink_new rand_old rand_new clock_old clock_new old new =
     Unanswered [] source_old source_new sink_old sink_new rand_old rand_new clock_old clock_new old new × IsAtEnd source_new.left
 TakesTurn turns.Cut source_old source_new sink_old sink_new rand_old rand_new clock_old clock_new old new =

@@ -40,7 +40,7 @@ loop-requests-preserved g c =
     let same : length c.take_turn.new.buffer ≡ length c.loop-requests.buffer.items = c.take_turn.auto.buffer ∙ ap (λ (l : List ℕ). length l) c.deref_mut.ensures.value in
     let whole : c.loop-requests.buffer.len ≡ length c.loop-requests.buffer.items = sym c.deref_mut.ensures.len ∙ ap (λ (l : List ℕ). length l) c.deref_mut.ensures.value in
     record {
-      turns = serves_more _ _ _ _ _ _ _ _ _ _ _ c.loop-requests.invariant.turns turn.0 turn.1 _ _ _ _ _ _ turn.2 turn.3 turn.4;
+      turns = serves_more _ _ _ _ _ _ _ _ _ _ _ c.loop-requests.invariant.turns turn.0 turn.1 _ _ _ _ turn.2 _ _ turn.3 turn.4;
       buffer = ap (λ (l : List ℕ). length l) (take_at c.take_turn.new.buffer _ _ (same ∙ sym whole)) ∙ same ∙ c.loop-requests.invariant.buffer;
       room = omega (arith, c.loop-requests.invariant.room, c.in-Answered.ensures.reserved);
     }

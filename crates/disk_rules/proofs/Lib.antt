@@ -1,0 +1,5 @@
+pub mod Calls
+pub mod Moments
+pub mod Append
+pub mod Settle
+pub mod Examples

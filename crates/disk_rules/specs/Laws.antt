@@ -1,0 +1,67 @@
+-- The laws of disks, as statements. Each is the contract of the function of its name.
+use Rattle.std.specs.Prelude.{◌≡◌, ℕ, ◌<◌, ◌≤◌, ◌⊎◌, List, [], ◌∷◌, ◌++◌, length, get_or}
+use Rattle.disk_rules.specs.Disk.{Disk, IsWithin, Leaves, LeavesOnly, IsDisk, Since}
+use Rattle.disk_rules.specs.Calls.{DiskCall, Write, Sync, MayCall, Done, Broken, Reaches, AllDone}
+use Rattle.disk_rules.specs.Append.{append_calls, settle_calls, stage_calls, StopsAtGate, IsInDoubt, IsAsBefore, IsWithBatch}
+
+-- what is shown is one of the bytes left
+abbrev pub ShowsIsLeft : Type 0
+ShowsIsLeft = (disk : Disk) → IsDisk disk → Leaves disk disk.shows
+
+-- each call leaves a disk, whether it succeeds, fails, or is under way
+abbrev pub CallsKeepDisk : Type 0
+CallsKeepDisk = (call : DiskCall) (old new : Disk) → IsDisk old → MayCall call old → Done call old new ⊎ Broken call old new → IsDisk new
+
+-- after a sync that succeeds only what is shown is left, and it shows what it showed
+abbrev pub SyncLeavesShown : Type 0
+SyncLeavesShown = (old new : Disk) → Done Sync old new → (new.shows ≡ old.shows) × LeavesOnly new old.shows
+
+-- a sync that fails changes nothing
+abbrev pub FailedSyncLeavesAll : Type 0
+FailedSyncLeavesAll = (old new : Disk) (bytes : List ℕ) → Broken Sync old new → (new.shows ≡ old.shows) × (Leaves new bytes → Leaves old bytes) × (Leaves old bytes → Leaves new bytes)
+
+-- outside its range a write touches no byte of an image: where all bytes left before had one at an offset, all that are left now have it
+abbrev pub WritesStayInRange : Type 0
+WritesStayInRange = (at : ℕ) (payload : List ℕ) (old new : Disk) → IsDisk old → MayCall (Write at payload) old → Done (Write at payload) old new ⊎ Broken (Write at payload) old new
+    → (offset byte : ℕ) → (IsWithin offset (record { at = at; count = length payload }) → ⊥) → ((left : List ℕ) → Leaves old left → (offset < length left) × (get_or left offset 0 ≡ byte))
+    → (left : List ℕ) → Leaves new left → (offset < length left) × (get_or left offset 0 ≡ byte)
+
+-- what may be left before a write may be left after it: it may not have reached the disk
+abbrev pub WritesMayBeLost : Type 0
+WritesMayBeLost = (at : ℕ) (payload : List ℕ) (old new : Disk) (left : List ℕ) → IsDisk old → MayCall (Write at payload) old → Done (Write at payload) old new ⊎ Broken (Write at payload) old new → Leaves old left → Leaves new left
+
+-- a history that goes on may have left what it may have left before
+abbrev pub SinceGrows : Type 0
+SinceGrows = (t : ℕ) (disk : Disk) (history : List Disk) (bytes : List ℕ) → Since t history bytes → Since t (disk ∷ history) bytes
+
+-- an earlier moment counts more
+abbrev pub SinceEarlier : Type 0
+SinceEarlier = (t u : ℕ) (history : List Disk) (bytes : List ℕ) → t ≤ u → Since u history bytes → Since t history bytes
+
+-- since now there is what may be left now
+abbrev pub SinceNow : Type 0
+SinceNow = (disk : Disk) (history : List Disk) (bytes : List ℕ) → (Since (length history) (disk ∷ history) bytes → Leaves disk bytes) × (Leaves disk bytes → Since (length history) (disk ∷ history) bytes)
+
+-- at each moment of an append, whatever fails, each image is the log as before or with the batch
+abbrev pub AppendIsAllOrNothing : Type 0
+AppendIsAllOrNothing = (front behind payload : List ℕ) (old now : Disk) (left : List ℕ) → IsDisk old → old.shows ≡ front ++ 0 ∷ behind → old.written ≡ []
+    → Reaches (append_calls (length front) payload) old now → Leaves now left → IsAsBefore front left ⊎ IsWithBatch front payload left
+
+-- and after an append that succeeded it is the log with the batch
+abbrev pub AppendIsKept : Type 0
+AppendIsKept = (front behind payload : List ℕ) (old new : Disk) (left : List ℕ) → old.shows ≡ front ++ 0 ∷ behind → AllDone (append_calls (length front) payload) old new → Leaves new left → IsWithBatch front payload left
+
+-- with its first two calls done an append is in doubt, and stays so where the write of the gate or the sync behind it fails, however often
+abbrev pub StagedIsInDoubt : Type 0
+StagedIsInDoubt = (front behind payload : List ℕ) (old new : Disk) → IsDisk old → old.shows ≡ front ++ 0 ∷ behind → AllDone (stage_calls (length front) payload) old new → IsInDoubt front payload new
+
+abbrev pub DoubtStays : Type 0
+DoubtStays = (front payload : List ℕ) (old now : Disk) → IsInDoubt front payload old → StopsAtGate (length front) old now → IsInDoubt front payload now
+
+-- at each moment of settling it each image is the log as before or with the batch
+abbrev pub SettleIsAllOrNothing : Type 0
+SettleIsAllOrNothing = (front payload : List ℕ) (old now : Disk) (left : List ℕ) → IsInDoubt front payload old → Reaches (settle_calls (length front)) old now → Leaves now left → IsAsBefore front left ⊎ IsWithBatch front payload left
+
+-- and after it was settled it is the log with the batch
+abbrev pub SettleIsKept : Type 0
+SettleIsKept = (front payload : List ℕ) (old new : Disk) (left : List ℕ) → IsInDoubt front payload old → AllDone (settle_calls (length front)) old new → Leaves new left → IsWithBatch front payload left

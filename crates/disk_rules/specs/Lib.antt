@@ -1,0 +1,5 @@
+pub mod Disk
+pub mod Calls
+pub mod Append
+pub mod Laws
+pub mod Examples

@@ -1,0 +1,183 @@
+-- The examples, computed.
+use Rattle.std.proofs.Common.{◌≡◌, ◌≢◌, ℕ, zero, suc, ◌+◌, ◌<◌, ◌≤◌, ◌^◌, inl, List, [], ◌∷◌, ◌++◌, length, get_or, drop, refl, sym, ◌∙◌, ap, arith, length-append}
+use Rattle.std.specs.Prelude.{take, replicate, slice_get, codes}
+use Rattle.std.specs.List.{flat_map, AllByRecursion}
+use Rattle.std.specs.Str.{IsAscii}
+use Rattle.std.proofs.lemmas.Str.{IsUtf8-from_ascii}
+use Rattle.std.proofs.lemmas.Str.Ascii.{IsAscii-nil}
+use Rattle.std.proofs.lemmas.Option.{none-some}
+use Rattle.std.proofs.lemmas.Bool.{true≢false}
+use Rattle.record_rules.specs.Records.{Event, Started, Local, Taken}
+use Rattle.record_rules.specs.Journal.{events_of, Sound}
+use Rattle.record_rules.proofs.Soundness.{empty_sound, Sound-push}
+use Rattle.log_rules.specs.Body.{IsText, HasEventBytes, IsBatch, event_bytes, body_bytes}
+use Rattle.log_rules.specs.Log.{batch_bytes, header_bytes, IsLogFront, StandsFor, DamagedAt, HoldsGoodBatch, payload_bytes}
+use Rattle.log_rules.specs.Examples.{worked_id, started_ls, ls_entry, started_empty, ls_log, WorkedBodies, WorkedNewLog, WorkedFirstBatch}
+use Rattle.log_rules.proofs.Fields.{number_4, body_apart}
+
+empty_front : (host : ℕ) → host < 2 ^ 128 → IsLogFront (header_bytes host) host []
+empty_front host fits = record { host_fits = fits; batches = []; opened = tt; events_are = refl; bytes_are = refl }
+
+ascii_cons : (byte : ℕ) (bytes : List ℕ) → byte < 128 → IsAscii bytes → IsAscii (byte ∷ bytes)
+ascii_cons byte bytes below others zero = below
+ascii_cons byte bytes below others (suc k) = others k
+
+ls_text : IsText (codes "ls")
+ls_text = record { utf8 = IsUtf8-from_ascii (codes "ls") (ascii_cons 0x6c (0x73 ∷ []) (omega arith) (ascii_cons 0x73 [] (omega arith) IsAscii-nil)); fits = omega arith }
+
+root_text : IsText (codes "/")
+root_text = record { utf8 = IsUtf8-from_ascii (codes "/") (ascii_cons 0x2f [] (omega arith) IsAscii-nil); fits = omega arith }
+
+session_text : IsText (codes "s1")
+session_text = record { utf8 = IsUtf8-from_ascii (codes "s1") (ascii_cons 0x73 (0x31 ∷ []) (omega arith) (ascii_cons 0x31 [] (omega arith) IsAscii-nil)); fits = omega arith }
+
+hostname_text : IsText (codes "h:u")
+hostname_text = record { utf8 = IsUtf8-from_ascii (codes "h:u") (ascii_cons 0x68 (0x3a ∷ 0x75 ∷ []) (omega arith) (ascii_cons 0x3a (0x75 ∷ []) (omega arith) (ascii_cons 0x75 [] (omega arith) IsAscii-nil))); fits = omega arith }
+
+ls_batch : IsBatch (Started started_ls ∷ [])
+ls_batch = record {
+  some = omega arith;
+  few = omega arith;
+  each = (record { id = omega arith; timestamp = omega arith; command = ls_text; cwd = root_text; session = session_text; hostname = hostname_text }, tt);
+  body = omega arith;
+}
+
+ls_sound : Sound (ls_entry ∷ []) 1
+ls_sound = Sound-push [] ls_entry 1 (empty_sound 1) (record {
+  numbered = tt;
+  made_here = tt;
+  closes_running = λ closed closes. absurd (true≢false (sym closes));
+  started_apart = λ k s t at is. absurd (none-some (Started s) at);
+  event_fits = record { command = omega arith; cwd = omega arith; session = omega arith; hostname = omega arith };
+  held_fits = refl;
+})
+
+ls_front : (gate : ℕ) → gate ≢ 0 → IsLogFront (header_bytes 1 ++ batch_bytes (record { gate = gate; events = Started started_ls ∷ [] })) 1 (Started started_ls ∷ [])
+ls_front gate opened = record { host_fits = omega arith; batches = record { gate = gate; events = Started started_ls ∷ [] } ∷ []; opened = (record { gate = opened; batch_events = ls_batch }, tt); events_are = refl; bytes_are = refl }
+
+ls_stands : (gate : ℕ) → gate ≢ 0 → StandsFor (ls_log gate) 1 (ls_entry ∷ [])
+ls_stands gate opened = record { front = header_bytes 1 ++ batch_bytes (record { gate = gate; events = Started started_ls ∷ [] }); behind = []; opened = ls_front gate opened; bytes_are = refl; sound = ls_sound }
+
+-- a body of 54 bytes and a gate don't fit into 54 bytes
+too_long : HoldsGoodBatch (0 ∷ 0 ∷ 0 ∷ 0x36 ∷ drop 37 (ls_log 1)) 1 [] → ⊥
+too_long good =
+    let numbers = number_4 0x36 (length (body_bytes good.events)) (drop 37 (ls_log 1)) (body_bytes good.events ++ good.gate ∷ good.behind) (omega arith) good.batch.body good.bytes_are in
+    let long : 54 ≡ length (body_bytes good.events) = numbers.0 in
+    let all : ◌≡◌ {A = ℕ} 54 (length (body_bytes good.events ++ good.gate ∷ good.behind)) = ap (λ (l : List ℕ). length l) numbers.1 in
+    let parts : length (body_bytes good.events ++ good.gate ∷ good.behind) ≡ length (body_bytes good.events) + (1 + length good.behind) = length-append (body_bytes good.events) (good.gate ∷ good.behind) ∙ omega arith in
+    omega (arith, long, all, parts)
+
+-- 53 bytes and no gate don't hold a body of 53 bytes and a gate
+no_next_gate : HoldsGoodBatch (take 57 (drop 33 (ls_log 1))) 1 [] → ⊥
+no_next_gate good =
+    let numbers = number_4 0x35 (length (body_bytes good.events)) (take 53 (drop 37 (ls_log 1))) (body_bytes good.events ++ good.gate ∷ good.behind) (omega arith) good.batch.body good.bytes_are in
+    let long : 53 ≡ length (body_bytes good.events) = numbers.0 in
+    let all : ◌≡◌ {A = ℕ} 53 (length (body_bytes good.events ++ good.gate ∷ good.behind)) = ap (λ (l : List ℕ). length l) numbers.1 in
+    let parts : length (body_bytes good.events ++ good.gate ∷ good.behind) ≡ length (body_bytes good.events) + (1 + length good.behind) = length-append (body_bytes good.events) (good.gate ∷ good.behind) ∙ omega arith in
+    omega (arith, long, all, parts)
+
+-- no event is of a kind 9
+no_kind_9 : (events : List Event) (rest more : List ℕ) → length events < 2 ^ 32 → 0 ∷ 0 ∷ 0 ∷ 1 ∷ 9 ∷ rest ≡ body_bytes events ++ more → ⊥
+no_kind_9 events rest more few e =
+    let numbers = number_4 1 (length events) (9 ∷ rest) (flat_map event_bytes events ++ more) (omega arith) few e in
+    by_events events rest more numbers.0 numbers.1
+  where
+    by_events : (events : List Event) (rest more : List ℕ) → 1 ≡ length events → 9 ∷ rest ≡ flat_map event_bytes events ++ more → ⊥
+    by_events [] rest more count e = omega arith
+    by_events (Started s ∷ events) rest more count e = let h : ◌≡◌ {A = ℕ} 9 1 = ap (λ (l : List ℕ). get_or l 0 0) e in omega arith
+    by_events (Local closes r ∷ events) rest more count e = let h : ◌≡◌ {A = ℕ} 9 2 = ap (λ (l : List ℕ). get_or l 0 0) e in omega arith
+    by_events (Taken owner r ∷ events) rest more count e = let h : ◌≡◌ {A = ℕ} 9 3 = ap (λ (l : List ℕ). get_or l 0 0) e in omega arith
+
+no_such_event : HoldsGoodBatch (take 8 (drop 33 (ls_log 1)) ++ 9 ∷ drop 42 (ls_log 1)) 1 [] → ⊥
+no_such_event good =
+    let few : length good.events < 2 ^ 32 = let h = good.batch.few in omega arith in
+    no_kind_9 good.events (drop 42 (ls_log 1)) (good.gate ∷ good.behind) few (ap (λ (l : List ℕ). drop 4 l) good.bytes_are)
+
+-- `ls` can't be started twice with one id
+not_twice : HoldsGoodBatch (drop 33 (ls_log 1)) 1 (Started started_ls ∷ []) → ⊥
+not_twice good =
+    let same = body_apart (Started started_ls ∷ []) good.events (0 ∷ []) (good.gate ∷ good.behind) ls_batch good.batch (ap (λ (l : List ℕ). drop 4 l) good.bytes_are) in
+    let twice : events_of good.sound.journal ≡ Started started_ls ∷ Started started_ls ∷ [] = good.sound.events_are ∙ ap (λ (events : List Event). Started started_ls ∷ events) (sym same.0) in
+    good.sound.sound.started_apart 0 1 started_ls started_ls (omega arith) (ap (λ (events : List Event). slice_get events 0) twice) (ap (λ (events : List Event). slice_get events 1) twice) refl
+
+empty_text : IsText []
+empty_text = record { utf8 = IsUtf8-from_ascii [] IsAscii-nil; fits = omega arith }
+
+empty_has : HasEventBytes started_empty
+empty_has = record { id = omega arith; timestamp = omega arith; command = empty_text; cwd = empty_text; session = empty_text; hostname = empty_text }
+
+all_empty : (count : ℕ) → AllByRecursion HasEventBytes (replicate count started_empty)
+all_empty zero = tt
+all_empty (suc count) = (empty_has, all_empty count)
+
+pub bodies : WorkedBodies
+bodies = record {
+  made_here = refl;
+  closing = refl;
+  taken_in = refl;
+  two = refl;
+  one = record { some = omega arith; few = omega arith; each = (empty_has, tt); body = omega arith };
+  hundred = record { some = omega arith; few = omega arith; each = all_empty 100; body = omega arith };
+  none = λ batch. let h : 1 ≤ 0 = batch.some in omega arith;
+  more = λ batch. let h : 101 ≤ 100 = batch.few in omega arith;
+}
+
+pub new_store : WorkedNewLog
+new_store = record {
+  bytes = refl;
+  count = refl;
+  stands = record { front = header_bytes worked_id; behind = []; opened = empty_front worked_id (omega arith); bytes_are = refl; sound = empty_sound worked_id };
+  fault = refl;
+  no_magic = refl;
+  other_magic = refl;
+  cut_host = refl;
+  cut_zeros = refl;
+  other_zeros = refl;
+  no_gate_at_all = inl (omega arith);
+  no_gate = refl;
+}
+
+-- damaged at the first batch behind an open gate 1
+damaged_at_first : (rest : List ℕ) → (HoldsGoodBatch rest 1 [] → ⊥) → DamagedAt (header_bytes 1 ++ 1 ∷ rest) 32
+damaged_at_first rest bad = record {
+  host = 1;
+  before = [];
+  front = header_bytes 1;
+  gate = 1;
+  rest = rest;
+  opened = empty_front 1 (omega arith);
+  sound = record { journal = []; events_are = refl; sound = empty_sound 1 };
+  bytes_are = refl;
+  offset_is = refl;
+  gate_open = λ e. absurd (omega arith);
+  bad = bad;
+}
+
+pub first_batch : WorkedFirstBatch
+first_batch = record {
+  count = refl;
+  gate = refl;
+  length_bytes = refl;
+  body = refl;
+  closed = refl;
+  stands = ls_stands 1 (λ e. absurd (omega arith));
+  other_gate = refl;
+  stands_too = ls_stands 7 (λ e. absurd (omega arith));
+  stands_closed = record { front = header_bytes 1; behind = payload_bytes (Started started_ls ∷ []) ++ 0 ∷ []; opened = empty_front 1 (omega arith); bytes_are = refl; sound = empty_sound 1 };
+  damaged = damaged_at_first (0 ∷ 0 ∷ 0 ∷ 0x36 ∷ drop 37 (ls_log 1)) too_long;
+  cut = damaged_at_first (take 57 (drop 33 (ls_log 1))) no_next_gate;
+  unknown_kind = damaged_at_first (take 8 (drop 33 (ls_log 1)) ++ 9 ∷ drop 42 (ls_log 1)) no_such_event;
+  repeated = record {
+    host = 1;
+    before = Started started_ls ∷ [];
+    front = header_bytes 1 ++ batch_bytes (record { gate = 1; events = Started started_ls ∷ [] });
+    gate = 1;
+    rest = drop 33 (ls_log 1);
+    opened = ls_front 1 (λ e. absurd (omega arith));
+    sound = record { journal = ls_entry ∷ []; events_are = refl; sound = ls_sound };
+    bytes_are = refl;
+    offset_is = refl;
+    gate_open = λ e. absurd (omega arith);
+    bad = not_twice;
+  };
+}

@@ -1,0 +1,90 @@
+-- Worked examples: a new log, and the log of one started command, byte by byte.
+use Rattle.std.specs.Prelude.{◌≡◌, ℕ, List, [], ◌∷◌, ◌++◌, length, take, drop, replicate, slice_get, codes, Some, None}
+use Rattle.record_rules.specs.Records.{SealedRecord, StartedEntry, Entry, Event, Started, Local, Taken}
+use Rattle.log_rules.specs.Body.{event_bytes, body_bytes, IsBatch}
+use Rattle.log_rules.specs.Log.{NotALog, header_bytes, batch_bytes, StandsFor, DamagedAt, header_fault}
+
+-- the id 018bcfe5-6800-7001-8203-040506070809
+abbrev pub worked_id : ℕ
+worked_id = 0x018bcfe5680070018203040506070809
+
+-- `ls` in `/`, session `s1`, host and user `h:u`, started at 2023-11-14 22:13:20 UTC
+abbrev pub started_ls : StartedEntry
+started_ls = record { id = worked_id; timestamp = 1700000000000000000; command = codes "ls"; cwd = codes "/"; session = codes "s1"; hostname = codes "h:u" }
+
+abbrev pub ls_entry : Entry
+ls_entry = record { caller = record { number = 1; call = 1; settled_for = 0 }; event = Started started_ls }
+
+-- the log of a new store
+abbrev pub new_log : ℕ → List ℕ
+new_log host = header_bytes host ++ 0 ∷ []
+
+-- that log with one batch, in which `ls` was started, behind this gate
+abbrev pub ls_log : (gate : ℕ) → List ℕ
+ls_log gate = header_bytes 1 ++ batch_bytes (record { gate = gate; events = Started started_ls ∷ [] }) ++ 0 ∷ []
+
+-- the same with an open gate and another length in bytes 33 to 36
+abbrev pub ls_log_with_length : List ℕ → List ℕ
+ls_log_with_length four = take 33 (ls_log 1) ++ four ++ drop 37 (ls_log 1)
+
+-- a started command with empty texts
+abbrev pub started_empty : Event
+started_empty = Started (record { id = 1; timestamp = 2; command = []; cwd = []; session = []; hostname = [] })
+
+-- a record each of whose fields differs from the others
+abbrev pub worked_record : SealedRecord
+worked_record = record { id = 0xa1; idx = 0xa2; host = 0xa3; host_name = codes "a"; timestamp = 0xa4; version = codes "b"; tag = codes "c"; sealed = codes "d"; wrapped = codes "e" }
+
+-- its bytes
+abbrev pub worked_record_bytes : List ℕ
+worked_record_bytes =
+    0 ∷ 0 ∷ 0 ∷ 0 ∷ 0 ∷ 0 ∷ 0 ∷ 0 ∷ 0 ∷ 0 ∷ 0 ∷ 0 ∷ 0 ∷ 0 ∷ 0 ∷ 0xa1
+    ∷ 0 ∷ 0 ∷ 0 ∷ 0 ∷ 0 ∷ 0 ∷ 0 ∷ 0xa2
+    ∷ 0 ∷ 0 ∷ 0 ∷ 0 ∷ 0 ∷ 0 ∷ 0 ∷ 0 ∷ 0 ∷ 0 ∷ 0 ∷ 0 ∷ 0 ∷ 0 ∷ 0 ∷ 0xa3
+    ∷ 0 ∷ 0 ∷ 0 ∷ 1 ∷ 0x61
+    ∷ 0 ∷ 0 ∷ 0 ∷ 0 ∷ 0 ∷ 0 ∷ 0 ∷ 0xa4
+    ∷ 0 ∷ 0 ∷ 0 ∷ 1 ∷ 0x62 ∷ 0 ∷ 0 ∷ 0 ∷ 1 ∷ 0x63 ∷ 0 ∷ 0 ∷ 0 ∷ 1 ∷ 0x64 ∷ 0 ∷ 0 ∷ 0 ∷ 1 ∷ 0x65 ∷ []
+
+pub record WorkedBodies : Type 0 where
+  pub made_here : event_bytes (Local None worked_record) ≡ 2 ∷ 0 ∷ worked_record_bytes
+  pub closing : event_bytes (Local (Some 7) worked_record) ≡ 2 ∷ 1 ∷ 0 ∷ 0 ∷ 0 ∷ 0 ∷ 0 ∷ 0 ∷ 0 ∷ 0 ∷ 0 ∷ 0 ∷ 0 ∷ 0 ∷ 0 ∷ 0 ∷ 0 ∷ 7 ∷ worked_record_bytes
+  pub taken_in : event_bytes (Taken 0x01020304 worked_record) ≡ 3 ∷ 1 ∷ 2 ∷ 3 ∷ 4 ∷ worked_record_bytes
+  pub two : body_bytes (Local None worked_record ∷ Taken 5 worked_record ∷ []) ≡ 0 ∷ 0 ∷ 0 ∷ 2 ∷ 2 ∷ 0 ∷ (worked_record_bytes ++ 3 ∷ 0 ∷ 0 ∷ 0 ∷ 5 ∷ worked_record_bytes)
+  -- a batch has 1 to 100 events
+  pub one : IsBatch (started_empty ∷ [])
+  pub hundred : IsBatch (replicate 100 started_empty)
+  pub none : IsBatch [] → ⊥
+  pub more : IsBatch (replicate 101 started_empty) → ⊥
+
+pub record WorkedNewLog : Type 0 where
+  pub bytes : new_log worked_id ≡ 0x41 ∷ 0x54 ∷ 0x55 ∷ 0x4c ∷ 0x4f ∷ 0x47 ∷ 0x30 ∷ 0x31 ∷ 0x01 ∷ 0x8b ∷ 0xcf ∷ 0xe5 ∷ 0x68 ∷ 0x00 ∷ 0x70 ∷ 0x01 ∷ 0x82 ∷ 0x03 ∷ 0x04 ∷ 0x05 ∷ 0x06 ∷ 0x07 ∷ 0x08 ∷ 0x09 ∷ 0 ∷ 0 ∷ 0 ∷ 0 ∷ 0 ∷ 0 ∷ 0 ∷ 0 ∷ 0 ∷ []
+  pub count : length (new_log worked_id) ≡ 33
+  pub stands : StandsFor (new_log worked_id) worked_id []
+  pub fault : header_fault (new_log worked_id) ≡ None
+  -- the places of what can't be read
+  pub no_magic : header_fault [] ≡ Some 0
+  pub other_magic : header_fault (0x42 ∷ drop 1 (new_log 1)) ≡ Some 0
+  pub cut_host : header_fault (take 23 (new_log 1)) ≡ Some 8
+  pub cut_zeros : header_fault (take 31 (new_log 1)) ≡ Some 24
+  pub other_zeros : header_fault (take 31 (new_log 1) ++ 1 ∷ 0 ∷ []) ≡ Some 24
+  pub no_gate_at_all : NotALog (take 32 (new_log 1))
+  pub no_gate : header_fault (take 32 (new_log 1)) ≡ Some 32
+
+pub record WorkedFirstBatch : Type 0 where
+  pub count : length (ls_log 1) ≡ 91
+  pub gate : slice_get (ls_log 1) 32 ≡ Some 1
+  pub length_bytes : take 4 (drop 33 (ls_log 1)) ≡ 0 ∷ 0 ∷ 0 ∷ 0x35 ∷ []
+  pub body : take 53 (drop 37 (ls_log 1)) ≡ 0 ∷ 0 ∷ 0 ∷ 1 ∷ 1 ∷ 0x01 ∷ 0x8b ∷ 0xcf ∷ 0xe5 ∷ 0x68 ∷ 0x00 ∷ 0x70 ∷ 0x01 ∷ 0x82 ∷ 0x03 ∷ 0x04 ∷ 0x05 ∷ 0x06 ∷ 0x07 ∷ 0x08 ∷ 0x09 ∷ 0x17 ∷ 0x97 ∷ 0x9c ∷ 0xfe ∷ 0x36 ∷ 0x2a ∷ 0x00 ∷ 0x00 ∷ 0 ∷ 0 ∷ 0 ∷ 2 ∷ 0x6c ∷ 0x73 ∷ 0 ∷ 0 ∷ 0 ∷ 1 ∷ 0x2f ∷ 0 ∷ 0 ∷ 0 ∷ 2 ∷ 0x73 ∷ 0x31 ∷ 0 ∷ 0 ∷ 0 ∷ 3 ∷ 0x68 ∷ 0x3a ∷ 0x75 ∷ []
+  pub closed : slice_get (ls_log 1) 90 ≡ Some 0
+  pub stands : StandsFor (ls_log 1) 1 (ls_entry ∷ [])
+  -- with another open gate it is the same journal, with the gate closed the journal without the batch
+  pub other_gate : take 32 (ls_log 1) ++ 7 ∷ drop 33 (ls_log 1) ≡ ls_log 7
+  pub stands_too : StandsFor (ls_log 7) 1 (ls_entry ∷ [])
+  pub stands_closed : StandsFor (ls_log 0) 1 []
+  -- with its length one more it is damaged at the gate
+  pub damaged : DamagedAt (ls_log_with_length (0 ∷ 0 ∷ 0 ∷ 0x36 ∷ [])) 32
+  -- and so it is where the last byte, the next gate, is missing, and where its event is of a kind 9
+  pub cut : DamagedAt (take 90 (ls_log 1)) 32
+  pub unknown_kind : DamagedAt (take 41 (ls_log 1) ++ 9 ∷ drop 42 (ls_log 1)) 32
+  -- with the batch a second time it is damaged at that one, since no two started commands have one id
+  pub repeated : DamagedAt (take 90 (ls_log 1) ++ drop 32 (ls_log 1)) 90

@@ -1,0 +1,4 @@
+pub mod Items
+pub mod Payloads
+pub mod Written
+pub mod Examples

@@ -1,0 +1,50 @@
+-- Worked examples: the bytes of one command that ended, and items in shorter and wider spellings.
+use Rattle.std.specs.Prelude.{◌≡◌, ℕ, pos, negsuc, List, [], ◌∷◌, ◌++◌, length, codes, Some, None}
+use Rattle.definitions.specs.Journal.{HistoryRecord}
+use Rattle.definitions.specs.Spelling.{SpellsInteger, written_integer}
+use Rattle.payload_rules.specs.Items.{SpellsBin}
+use Rattle.payload_rules.specs.Payloads.{Payload, HistoryCreate, HistoryDelete, KvSet, AliasSet, AliasDelete, tag_of, PayloadOf, written_payload}
+
+-- `ls` in `/`, session `s1`, on `h:u`, ended after 1,000 nanoseconds with status 0
+abbrev pub ls : HistoryRecord
+ls = record { id = 0x018bcfe5680070018203040506070809; timestamp = 1700000000000000000; duration = pos 1000; exit = pos 0; command = codes "ls"; cwd = codes "/"; session = codes "s1"; hostname = codes "h:u"; deleted_at = None }
+
+abbrev pub ls_payload : List ℕ
+ls_payload =
+    0xcc ∷ 0x00 ∷ 0xc4 ∷ 0x40 ∷ 0xcd ∷ 0x00 ∷ 0x00 ∷ 0x99 ∷ 0xd9 ∷ 0x20 ∷ (codes "018bcfe5680070018203040506070809"
+    ++ (0xcf ∷ 0x17 ∷ 0x97 ∷ 0x9c ∷ 0xfe ∷ 0x36 ∷ 0x2a ∷ 0x00 ∷ 0x00 ∷ 0xcd ∷ 0x03 ∷ 0xe8 ∷ 0x00 ∷ 0xa2 ∷ 0x6c ∷ 0x73 ∷ 0xa1 ∷ 0x2f ∷ 0xa2 ∷ 0x73 ∷ 0x31 ∷ 0xa3 ∷ 0x68 ∷ 0x3a ∷ 0x75 ∷ 0xc0 ∷ []))
+
+pub record WorkedCreation : Type 0 where
+  pub bytes : length ls_payload ≡ 68
+  pub written : written_payload (HistoryCreate ls) ≡ ls_payload
+  pub spelled : PayloadOf (codes "history") (codes "v0") ls_payload (HistoryCreate ls)
+  -- with a byte behind, in another version, and with the tag of another kind there is none
+  pub byte_behind : (byte : ℕ) (payload : Payload) → PayloadOf (codes "history") (codes "v0") (ls_payload ++ byte ∷ []) payload → ⊥
+  pub other_version : (payload : Payload) → PayloadOf (codes "history") (codes "v9") ls_payload payload → ⊥
+  pub other_tag : (payload : Payload) → PayloadOf (codes "kv") (codes "v0") ls_payload payload → ⊥
+
+pub record WorkedItems : Type 0 where
+  -- -1 and 49,206,000 as they are written, and the latter in eight bytes, which spells it as well
+  pub minus_one : written_integer (negsuc 0) ≡ 0xff ∷ []
+  pub duration : written_integer (pos 49206000) ≡ 0xce ∷ 0x02 ∷ 0xee ∷ 0xd2 ∷ 0xf0 ∷ []
+  pub wide_duration : SpellsInteger (pos 49206000) (0xd3 ∷ 0x00 ∷ 0x00 ∷ 0x00 ∷ 0x00 ∷ 0x02 ∷ 0xee ∷ 0xd2 ∷ 0xf0 ∷ [])
+  -- the empty bin, in one byte of length and in four
+  pub empty_bin : SpellsBin [] (0xc4 ∷ 0x00 ∷ [])
+  pub wide_bin : SpellsBin [] (0xc6 ∷ 0x00 ∷ 0x00 ∷ 0x00 ∷ 0x00 ∷ [])
+
+-- a command at time 0 that was deleted at time 1, with the least id, a duration and an exit status of -1, and empty texts
+abbrev pub least : HistoryRecord
+least = record { id = 0; timestamp = 0; duration = negsuc 0; exit = negsuc 0; command = []; cwd = []; session = []; hostname = []; deleted_at = Some 1 }
+
+pub record WorkedPayloads : Type 0 where
+  -- the deletion of that command; a key's value; an alias, and its deletion
+  pub deleted : written_payload (HistoryDelete ls.id) ≡ 0xcc ∷ 0x01 ∷ 0xd9 ∷ 0x20 ∷ codes "018bcfe5680070018203040506070809"
+  pub key : written_payload (KvSet (codes "n") (codes "k") (codes "v")) ≡ 0x93 ∷ 0xa1 ∷ 0x6e ∷ 0xa1 ∷ 0x6b ∷ 0xa1 ∷ 0x76 ∷ []
+  pub alias : written_payload (AliasSet (codes "g") (codes "git")) ≡ 0xcc ∷ 0x00 ∷ 0x92 ∷ 0xa1 ∷ 0x67 ∷ 0xa3 ∷ 0x67 ∷ 0x69 ∷ 0x74 ∷ []
+  pub no_alias : written_payload (AliasDelete (codes "g")) ≡ 0xcc ∷ 0x01 ∷ 0x91 ∷ 0xa1 ∷ 0x67 ∷ []
+  -- times stand in eight bytes, whatever they are
+  pub wide_times : written_payload (HistoryCreate least) ≡ 0xcc ∷ 0x00 ∷ 0xc4 ∷ 0x3e ∷ 0xcd ∷ 0x00 ∷ 0x00 ∷ 0x99 ∷ 0xd9 ∷ 0x20 ∷ (codes "00000000000000000000000000000000" ++ (0xcf ∷ 0 ∷ 0 ∷ 0 ∷ 0 ∷ 0 ∷ 0 ∷ 0 ∷ 0 ∷ 0xff ∷ 0xff ∷ 0xa0 ∷ 0xa0 ∷ 0xa0 ∷ 0xa0 ∷ 0xcf ∷ 0 ∷ 0 ∷ 0 ∷ 0 ∷ 0 ∷ 0 ∷ 0 ∷ 1 ∷ []))
+  -- the tag of each
+  pub deletion_tag : tag_of (HistoryDelete ls.id) ≡ codes "history"
+  pub key_tag : tag_of (KvSet (codes "n") (codes "k") (codes "v")) ≡ codes "kv"
+  pub alias_tags : (tag_of (AliasSet (codes "g") (codes "git")) ≡ codes "dotfiles-shell-alias") × (tag_of (AliasDelete (codes "g")) ≡ codes "dotfiles-shell-alias")

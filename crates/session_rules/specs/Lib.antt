@@ -1,0 +1,5 @@
+pub mod Bytes
+pub mod Sessions
+pub mod Passes
+pub mod Laws
+pub mod Examples

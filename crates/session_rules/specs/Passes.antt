@@ -1,0 +1,39 @@
+-- A pass: what one of several callers has seen of a journal that they share by turns.
+use Rattle.std.specs.Prelude.{◌≡◌, ℕ, ◌≤◌, List, [], ◌∷◌, ◌++◌, filter, Bool, true}
+use Rattle.record_rules.specs.Records.{Entry}
+use Rattle.step_rules.specs.Answers.{Reply, refused, disk_fault}
+use Rattle.session_rules.specs.Sessions.{is_of}
+
+-- a turn that a pass gave back: how long the journal was when it was taken and when it was given, and whether a fault was counted between
+pub record TurnItem : Type 0 where
+  pub found : ℕ
+  pub left : ℕ
+  pub failed : Bool
+
+-- The number is the pass's own. It has seen the journal as it was at its last turn, knows that so many numbers were given, and
+-- found so many faults counted. The turns stand in their order.
+pub record Pass : Type 0 where
+  pub number : ℕ
+  pub seen : List Entry
+  pub known : ℕ
+  pub turns : List TurnItem
+  pub faults : ℕ
+
+-- the entries that it has seen with its own number
+abbrev pub mine : Pass → List Entry
+mine pass = filter (is_of pass.number) pass.seen
+
+-- a pass knows at least of its own number
+abbrev pub KnowsItself : Pass → Type 0
+KnowsItself pass = pass.number ≤ pass.known
+
+-- One turn for each reply, in order: the front is what the turn left, and a fault of the disk is told only after a turn that failed.
+abbrev pub TurnsFor : List TurnItem → List Reply → Type 0
+TurnsFor [] [] = Unit {0}
+TurnsFor (turn ∷ turns) (reply ∷ replies) = (reply.front ≡ turn.left) × (reply.answer ≡ refused disk_fault → turn.failed ≡ true) × TurnsFor turns replies
+TurnsFor [] (reply ∷ replies) = ⊥
+TurnsFor (turn ∷ turns) [] = ⊥
+
+-- the turns of a pass after these replies, given those before
+abbrev pub TurnsOf : List TurnItem → List Reply → List TurnItem → Type 0
+TurnsOf turns replies after = (added : List TurnItem) × (after ≡ turns ++ added) × TurnsFor added replies

@@ -1,0 +1,66 @@
+-- What a session was asked, and what it answered, each at a point of one journal. Other sessions' entries may stand between its own.
+use Rattle.std.specs.Prelude.{◌≡◌, ℕ, ◌+◌, ◌≤◌, List, [], ◌∷◌, ◌++◌, length, take, filter, Bool, true, false, ◌==◌}
+use Rattle.definitions.specs.Step.{Used, used_nothing, then_used, read_and_failed}
+use Rattle.record_rules.specs.Records.{Caller, Entry}
+use Rattle.step_rules.specs.Calls.{Call, is_read}
+use Rattle.step_rules.specs.Answers.{Answer, refused, random_fault, disk_fault, no_memory, bad_request, Reply}
+use Rattle.step_rules.specs.Store.{KeyedStore}
+use Rattle.step_rules.specs.Step.{Draft, Ready, Step}
+use Rattle.step_rules.specs.Turn.{UsedSome}
+
+-- a request: a call, or bytes that are none, with the place of the first wrong item
+pub data Asked : Type 0 where
+  a_call : Call → Asked
+  no_call : (place : ℕ) → Asked
+
+-- the caller of the call of this number of a session
+abbrev pub caller_of : (number call : ℕ) → Caller
+caller_of number call = record { number = number; call = call; settled_for = 0 }
+
+-- The answer to one request at this front of the journal, what it used, and what it committed: the last entries before the front. Where
+-- nothing was committed a fault, or want of memory, may be told in place of the step's answer.
+pub data Told (store : KeyedStore) (journal : List Entry) (caller : Caller) (asked : Asked) (front : ℕ) (used : Used) (answer : Answer) (commit : List Entry) : Type 0 where
+  -- what the step gives from the journal before the commit to the journal at the front
+  told_step : (call : Call) (before : List Entry) → asked ≡ a_call call → take front journal ≡ before ++ commit → Step store before caller call used (take front journal) answer → Told store journal caller asked front used answer commit
+  told_bad : (place : ℕ) → asked ≡ no_call place → used ≡ used_nothing → answer ≡ refused (bad_request place) → commit ≡ [] → Told store journal caller asked front used answer commit
+  -- a call that writes
+  told_disk_fault : (call : Call) → asked ≡ a_call call → is_read call ≡ false → UsedSome used → answer ≡ refused disk_fault → commit ≡ [] → Told store journal caller asked front used answer commit
+  -- where the step would have drawn
+  told_random_fault : (call : Call) (draft : Draft) (now : ℕ) → asked ≡ a_call call → Ready store (take front journal) call draft → used ≡ read_and_failed now → answer ≡ refused random_fault → commit ≡ [] → Told store journal caller asked front used answer commit
+  told_no_memory : (call : Call) → asked ≡ a_call call → is_read call ≡ false → UsedSome used → answer ≡ refused no_memory → commit ≡ [] → Told store journal caller asked front used answer commit
+  told_no_memory_to_read : (call : Call) → asked ≡ a_call call → is_read call ≡ true → used ≡ used_nothing → answer ≡ refused no_memory → commit ≡ [] → Told store journal caller asked front used answer commit
+
+-- one reply: what was used and committed for it, within what was used and committed from here on
+pub record One (store : KeyedStore) (journal : List Entry) (number from call : ℕ) (asked : Asked) (used : Used) (reply : Reply) (commits : List Entry) : Type 0 where
+  pub used_here : Used
+  pub used_later : Used
+  pub commit : List Entry
+  pub commits_later : List Entry
+  pub used_is : used ≡ then_used used_here used_later
+  pub commits_are : commits ≡ commit ++ commits_later
+  -- its commit stands behind the front of the reply before
+  pub behind : from + length commit ≤ reply.front
+  pub within : reply.front ≤ length journal
+  pub told : Told store journal (caller_of number call) asked reply.front used_here reply.answer commit
+
+-- The replies to these requests, one after the other, each at a front between the one before, `from`, and the journal's end. The first
+-- request has this call number. These are what is used and committed in all.
+abbrev pub Serves : KeyedStore → List Entry → (number from call : ℕ) → List Asked → Used → List Reply → List Entry → Type 0
+Serves store journal number from call [] used [] commits = (used ≡ used_nothing) × (commits ≡ [])
+Serves store journal number from call (asked ∷ more) used (reply ∷ replies) commits =
+    (one : One store journal number from call asked used reply commits) × Serves store journal number reply.front (call + 1) more one.used_later replies one.commits_later
+Serves store journal number from call [] used (reply ∷ replies) commits = ⊥
+Serves store journal number from call (asked ∷ more) used [] commits = ⊥
+
+-- whether the entry came by a call of that pass
+abbrev pub is_of : ℕ → Entry → Bool
+is_of number entry = entry.caller.number == number
+
+-- The session of this number: from all that was seen when it was opened, to the journal at its end. Of the entries since then those with its
+-- number are its commits, each once and in order.
+pub record Session (store : KeyedStore) (seen : List Entry) (number : ℕ) (asked : List Asked) (used : Used) (replies : List Reply) (journal : List Entry) : Type 0 where
+  pub since : List Entry
+  pub begins : journal ≡ seen ++ since
+  pub commits : List Entry
+  pub serves : Serves store journal number (length seen) 1 asked used replies commits
+  pub own_are : filter (is_of number) since ≡ commits

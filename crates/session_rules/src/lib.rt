@@ -1,0 +1,69 @@
+//! Sessions: what one of several callers of a store was asked and answered, each at a point of one
+//! journal; passes, which take turns at it; the bytes of replies; and the laws of these words alone.
+//!
+//! A session names no other one. That sessions of different numbers share one journal and don't
+//! overlap is a law. The words for calls and steps are those of `step_rules`.
+//!
+//! Each function has an empty body, and its contract is the law that its name says.
+#![tactic(auto)]
+
+ghost use Rattle.session_rules.specs.Laws.{EachIsAnswered, RepliesAtPoints, PointsFollow, CommitsAreOwn, SessionsDontOverlap, OthersLeaveIt, TurnMakesLonger, SessionBegins, TurnsFollow};
+ghost use Rattle.session_rules.specs.Examples.{WorkedReplies, WorkedSessions};
+
+/// Each request of a session gets one reply.
+pub fn each_is_answered()
+    ensures { EachIsAnswered }
+{}
+
+/// Each reply is what its call is told at the point of the journal that the reply names: what the step
+/// gives there, or one of the four answers that may stand in its place.
+pub fn replies_at_points()
+    ensures { RepliesAtPoints }
+{}
+
+/// The points follow one another, between what was seen at the opening and the journal's end.
+pub fn points_follow()
+    ensures { PointsFollow }
+{}
+
+/// What a session commits has its number.
+pub fn commits_are_own()
+    ensures { CommitsAreOwn }
+{}
+
+/// No entry is committed by two sessions of different numbers.
+pub fn sessions_dont_overlap()
+    ensures { SessionsDontOverlap }
+{}
+
+/// What others add behind the journal leaves the session as it is.
+pub fn others_leave_it()
+    ensures { OthersLeaveIt }
+{}
+
+/// A turn makes the session of its pass longer by one call and its reply, whatever others added since
+/// the reply before.
+pub fn turn_makes_longer()
+    ensures { TurnMakesLonger }
+{}
+
+/// A session begins at any journal.
+pub fn session_begins()
+    ensures { SessionBegins }
+{}
+
+/// The turns of two runs of replies, one after the other, are those of both.
+pub fn turns_follow()
+    ensures { TurnsFollow }
+{}
+
+/// Replies in bytes, worked out.
+pub fn worked_replies()
+    ensures { WorkedReplies }
+{}
+
+/// Two sessions in one journal, worked out: the second was served first. And a request that is no call,
+/// and the turns of a pass.
+pub fn worked_sessions()
+    ensures { WorkedSessions }
+{}

@@ -1,0 +1,60 @@
+-- The laws of steps and turns, as statements. Each is the contract of the function of its name.
+use Rattle.std.specs.Prelude.{◌≡◌, ℕ, ◌≤◌, List, ◌++◌, length, All, true, false, ◌⊎◌}
+use Rattle.definitions.specs.Step.{Used}
+use Rattle.record_rules.specs.Records.{Caller, Entry}
+use Rattle.record_rules.specs.Journal.{chain, IsNumbered, Sound}
+use Rattle.view_rules.specs.Views.{OpensByTag}
+use Rattle.step_rules.specs.Calls.{Call, CallFits, is_read}
+use Rattle.step_rules.specs.Answers.{Refusal, Answer, refused, Reply}
+use Rattle.step_rules.specs.Store.{KeyedStore, SealsWell, HasCommand, HasAlias}
+use Rattle.step_rules.specs.Step.{Shows, Step}
+use Rattle.step_rules.specs.Turn.{settled, Turn}
+
+-- a step from a sound journal leaves a sound journal
+abbrev pub StepKeepsSound : Type 0
+StepKeepsSound = (store : KeyedStore) (journal : List Entry) (caller : Caller) (call : Call) (used : Used) (after : List Entry) (answer : Answer) → SealsWell store → CallFits call → Sound journal store.host → Step store journal caller call used after answer → Sound after store.host
+
+-- so each chain stays numbered from 0 without gaps
+abbrev pub StepNumbersChains : Type 0
+StepNumbersChains = (store : KeyedStore) (journal : List Entry) (caller : Caller) (call : Call) (used : Used) (after : List Entry) (answer : Answer) → SealsWell store → CallFits call → Sound journal store.host → Step store journal caller call used after answer → (owner host : ℕ) (tag : List ℕ) → IsNumbered (chain after owner host tag)
+
+-- behind the journal stands at most one entry more, of this caller
+abbrev pub StepAddsOne : Type 0
+StepAddsOne = (store : KeyedStore) (journal : List Entry) (caller : Caller) (call : Call) (used : Used) (after : List Entry) (answer : Answer) → Step store journal caller call used after answer → (added : List Entry) × (after ≡ journal ++ added) × (length added ≤ 1) × All (λ entry. entry.caller ≡ caller) added
+
+-- a refusal leaves the journal, and so does a read
+abbrev pub RefusalLeaves : Type 0
+RefusalLeaves = (store : KeyedStore) (journal : List Entry) (caller : Caller) (call : Call) (used : Used) (after : List Entry) (refusal : Refusal) → Step store journal caller call used after (refused refusal) → after ≡ journal
+
+abbrev pub ReadLeaves : Type 0
+ReadLeaves = (store : KeyedStore) (journal : List Entry) (caller : Caller) (call : Call) (used : Used) (after : List Entry) (answer : Answer) → is_read call ≡ true → Step store journal caller call used after answer → after ≡ journal
+
+-- of each id and name it is told whether it is shown, and whatever is asked has an answer
+pub record ViewsAnswer (store : KeyedStore) (journal : List Entry) : Type 0 where
+  pub command : (id : ℕ) → HasCommand store journal id ⊎ (HasCommand store journal id → ⊥)
+  pub name : (name : List ℕ) → HasAlias store journal name ⊎ (HasAlias store journal name → ⊥)
+  pub reads : (call : Call) → is_read call ≡ true → (answer : Answer) × Shows store journal call answer
+
+-- where the views have answers, every call has an outcome, whatever the clock says and whichever bytes are drawn
+abbrev pub StepHasOutcome : Type 0
+StepHasOutcome = (store : KeyedStore) (journal : List Entry) (caller : Caller) (call : Call) (now : ℕ) (ten all : List ℕ) → ViewsAnswer store journal → length ten ≡ 10 → length all ≡ 106 → (used : Used) × (after : List Entry) × (answer : Answer) × Step store journal caller call used after answer
+
+-- a writing call has one outcome, given what it used
+abbrev pub WriteHasOneOutcome : Type 0
+WriteHasOneOutcome = (store : KeyedStore) (journal : List Entry) (caller : Caller) (call : Call) (used : Used) (one other : List Entry) (a b : Answer) → is_read call ≡ false → Step store journal caller call used one a → Step store journal caller call used other b → (one ≡ other) × (a ≡ b)
+
+-- at a sound journal, where records open by their tag, so has every call
+abbrev pub StepHasOneOutcome : Type 0
+StepHasOneOutcome = (store : KeyedStore) (journal : List Entry) (caller : Caller) (call : Call) (used : Used) (one other : List Entry) (a b : Answer) → OpensByTag store.opens → Sound journal store.host → Step store journal caller call used one a → Step store journal caller call used other b → (one ≡ other) × (a ≡ b)
+
+-- a turn leaves a sound journal, which is sound with the commit in doubt too, if that is so before
+abbrev pub TurnKeepsSound : Type 0
+TurnKeepsSound = (store : KeyedStore) (journal doubt : List Entry) (caller : Caller) (call : Call) (used : Used) (after doubt_after : List Entry) (reply : Reply) → SealsWell store → CallFits call → Sound journal store.host → Sound (settled journal doubt) store.host → Turn store journal doubt caller call used after doubt_after reply → Sound after store.host × Sound (settled after doubt_after) store.host
+
+-- a turn's reply tells the length of the journal that it leaves
+abbrev pub TurnTellsFront : Type 0
+TurnTellsFront = (store : KeyedStore) (journal doubt : List Entry) (caller : Caller) (call : Call) (used : Used) (after doubt_after : List Entry) (reply : Reply) → Turn store journal doubt caller call used after doubt_after reply → reply.front ≡ length after
+
+-- a turn only adds
+abbrev pub TurnOnlyAdds : Type 0
+TurnOnlyAdds = (store : KeyedStore) (journal doubt : List Entry) (caller : Caller) (call : Call) (used : Used) (after doubt_after : List Entry) (reply : Reply) → Turn store journal doubt caller call used after doubt_after reply → (added : List Entry) × (after ≡ journal ++ added)

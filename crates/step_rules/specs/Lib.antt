@@ -1,0 +1,7 @@
+pub mod Calls
+pub mod Answers
+pub mod Store
+pub mod Step
+pub mod Turn
+pub mod Laws
+pub mod Examples

@@ -1,0 +1,90 @@
+//! What one call does to a journal, and its answer: the calls with their limits, the step, and the
+//! turn, which is a step on a disk that may fail; and the laws that hold of these words alone.
+//!
+//! A call is refused, or appends one entry, or shows something. What the key of a store seals and
+//! opens is a parameter. The words for journals are those of `record_rules`, those for what records
+//! hold and show those of `payload_rules` and `view_rules`.
+//!
+//! Each function has an empty body, and its contract is the law that its name says.
+#![tactic(auto)]
+
+ghost use Rattle.step_rules.specs.Laws.{StepKeepsSound, StepNumbersChains, StepAddsOne, RefusalLeaves, ReadLeaves, StepHasOutcome, WriteHasOneOutcome, StepHasOneOutcome, TurnKeepsSound, TurnTellsFront, TurnOnlyAdds};
+ghost use Rattle.step_rules.specs.Examples.{WorkedCommand, WorkedTexts, WorkedViews, WorkedDoubt};
+
+/// A step from a sound journal leaves a sound journal.
+pub fn step_keeps_sound()
+    ensures { StepKeepsSound }
+{}
+
+/// After a step each chain, of every owner, is numbered from 0 without gaps.
+pub fn step_numbers_chains()
+    ensures { StepNumbersChains }
+{}
+
+/// A step keeps the journal as the front of what it leaves, and adds at most one entry, which has the
+/// caller of the call.
+pub fn step_adds_one()
+    ensures { StepAddsOne }
+{}
+
+/// A call that is refused leaves the journal as it was.
+pub fn refusal_leaves()
+    ensures { RefusalLeaves }
+{}
+
+/// A call that only asks leaves the journal as it was.
+pub fn read_leaves()
+    ensures { ReadLeaves }
+{}
+
+/// Every call has an outcome at every journal whose views have answers, whatever the clock says and
+/// whichever bytes are drawn.
+pub fn step_has_outcome()
+    ensures { StepHasOutcome }
+{}
+
+/// A call that writes has one outcome, given what it used of the clock and the random bytes.
+pub fn write_has_one_outcome()
+    ensures { WriteHasOneOutcome }
+{}
+
+/// At a sound journal, where records open by their tag, every call has one outcome: what is appended and
+/// what is shown.
+pub fn step_has_one_outcome()
+    ensures { StepHasOneOutcome }
+{}
+
+/// A turn leaves a sound journal, which stays sound when what is in doubt is settled.
+pub fn turn_keeps_sound()
+    ensures { TurnKeepsSound }
+{}
+
+/// A turn's reply tells the length of the journal that the turn leaves.
+pub fn turn_tells_front()
+    ensures { TurnTellsFront }
+{}
+
+/// A turn keeps the journal as the front of what it leaves.
+pub fn turn_only_adds()
+    ensures { TurnOnlyAdds }
+{}
+
+/// A command, worked out: its start and its end, the same again, and an end of what never ran.
+pub fn worked_command()
+    ensures { WorkedCommand }
+{}
+
+/// Texts at their limits, and one byte above.
+pub fn worked_texts()
+    ensures { WorkedTexts }
+{}
+
+/// Reads and deletions, worked out: an alias that was never set, the value of a key, and none of another.
+pub fn worked_views()
+    ensures { WorkedViews }
+{}
+
+/// A commit that fails, worked out: in doubt and lost, then settled, and made again.
+pub fn worked_doubt()
+    ensures { WorkedDoubt }
+{}

@@ -1,0 +1,5 @@
+pub mod Batches
+pub mod Cuts
+pub mod Examples
+pub mod Kept
+pub mod Stores

@@ -1,0 +1,14 @@
+use Rattle.world_rules.proofs.Kept.{world_holds, no_forks}
+use Rattle.world_rules.proofs.world_laws.no_world_forks.Goals as goal
+
+pub returns-clause-sound : goal.returns-clause-sound
+returns-clause-sound c = λ hosts events w apart reach. (world_holds hosts events w apart reach).sound
+
+pub returns-clause-fronts : goal.returns-clause-fronts
+returns-clause-fronts c = λ hosts events w apart reach. (world_holds hosts events w apart reach).fronts
+
+pub returns-clause-no_strangers : goal.returns-clause-no_strangers
+returns-clause-no_strangers c = λ hosts events w apart reach. (world_holds hosts events w apart reach).strangers
+
+pub returns-clause-no_forks : goal.returns-clause-no_forks
+returns-clause-no_forks c = λ hosts events w apart reach. no_forks hosts w (world_holds hosts events w apart reach)

@@ -1,0 +1,4 @@
+pub mod Examples
+pub mod Laws
+pub mod Stores
+pub mod World

@@ -1,6 +1,6 @@
 -- The laws of sessions, as statements. Each is the contract of the function of its name.
 use Rattle.std.specs.Prelude.{◌≡◌, ◌≢◌, ℕ, ◌+◌, ◌≤◌, List, [], ◌∷◌, ◌++◌, length, slice_get, All, false, Some}
-use Rattle.std.specs.List.{Contains}
+use Rattle.std.specs.List.{Contains, filter}
 use Rattle.definitions.specs.Step.{Used, used_nothing, then_used}
 use Rattle.record_rules.specs.Records.{Entry}
 use Rattle.step_rules.specs.Calls.{Call}
@@ -8,7 +8,7 @@ use Rattle.step_rules.specs.Answers.{Reply}
 use Rattle.step_rules.specs.Store.{KeyedStore}
 use Rattle.step_rules.specs.Turn.{Turn}
 use Rattle.session_rules.specs.Sessions.{Asked, a_call, caller_of, Told, is_of, Session}
-use Rattle.session_rules.specs.Passes.{TurnItem, TurnsOf}
+use Rattle.session_rules.specs.Passes.{TurnItem, TurnsOf, Pass, mine, seen_more}
 
 -- each request gets one reply
 abbrev pub EachIsAnswered : Type 0
@@ -51,3 +51,7 @@ SessionBegins = (store : KeyedStore) (seen : List Entry) (number : ℕ) → Sess
 -- the turns of two runs of replies, one after the other, are those of both
 abbrev pub TurnsFollow : Type 0
 TurnsFollow = (before between after : List TurnItem) (replies more : List Reply) → TurnsOf before replies between → TurnsOf between more after → TurnsOf before (replies ++ more) after
+
+-- what a pass has committed grows by the entries of its number among those that it sees
+abbrev pub PassGrowsByItsOwn : Type 0
+PassGrowsByItsOwn = (pass : Pass) (added : List Entry) → mine (seen_more pass added) ≡ mine pass ++ filter (is_of pass.number) added

@@ -11,17 +11,22 @@ pub record TurnItem : Type 0 where
   pub failed : Bool
 
 -- The number is the pass's own. It has seen the journal as it was at its last turn, knows that so many numbers were given, and
--- found so many faults counted. The turns stand in their order.
+-- found so many faults counted. The turns stand in their order. The fixed part is what never changes: the store's host, and its key if it has one.
 pub record Pass : Type 0 where
   pub number : ℕ
   pub seen : List Entry
   pub known : ℕ
   pub turns : List TurnItem
   pub faults : ℕ
+  pub fixed : List ℕ
 
 -- the entries that it has seen with its own number
 abbrev pub mine : Pass → List Entry
 mine pass = filter (is_of pass.number) pass.seen
+
+-- the pass when it has seen these entries too
+abbrev pub seen_more : Pass → List Entry → Pass
+seen_more pass added = record pass { seen = pass.seen ++ added }
 
 -- a pass knows at least of its own number
 abbrev pub KnowsItself : Pass → Type 0

@@ -7,7 +7,7 @@
 //! Each function has an empty body, and its contract is the law that its name says.
 #![tactic(auto)]
 
-ghost use Rattle.session_rules.specs.Laws.{EachIsAnswered, RepliesAtPoints, PointsFollow, CommitsAreOwn, SessionsDontOverlap, OthersLeaveIt, TurnMakesLonger, SessionBegins, TurnsFollow};
+ghost use Rattle.session_rules.specs.Laws.{EachIsAnswered, RepliesAtPoints, PointsFollow, CommitsAreOwn, SessionsDontOverlap, OthersLeaveIt, TurnMakesLonger, SessionBegins, TurnsFollow, PassGrowsByItsOwn};
 ghost use Rattle.session_rules.specs.Examples.{WorkedReplies, WorkedSessions};
 
 /// Each request of a session gets one reply.
@@ -55,6 +55,11 @@ pub fn session_begins()
 /// The turns of two runs of replies, one after the other, are those of both.
 pub fn turns_follow()
     ensures { TurnsFollow }
+{}
+
+/// What a pass has committed grows by the entries of its own number among those that it sees.
+pub fn pass_grows_by_its_own()
+    ensures { PassGrowsByItsOwn }
 {}
 
 /// Replies in bytes, worked out.

@@ -5,3 +5,4 @@ pub mod Following
 pub mod Outcomes
 pub mod Steps
 pub mod Turns
+pub mod PageTurns

@@ -60,10 +60,10 @@ module _ (store : KeyedStore) (journal doubt after doubt_after : List Entry) (re
   )
 
 -- with nothing in doubt
-nothing_settled : (journal : List Entry) (host : ℕ) → Sound journal host → Sound (settled journal []) host
+pub nothing_settled : (journal : List Entry) (host : ℕ) → Sound journal host → Sound (settled journal []) host
 nothing_settled journal host sound = subst (λ j. Sound j host) (sym (append-nil journal)) sound
 
-lost_or_left : (journal batch left : List Entry) (host : ℕ) → Sound journal host → Sound (journal ++ batch) host → (left ≡ []) ⊎ (left ≡ batch) → Sound (settled journal left) host
+pub lost_or_left : (journal batch left : List Entry) (host : ℕ) → Sound journal host → Sound (journal ++ batch) host → (left ≡ []) ⊎ (left ≡ batch) → Sound (settled journal left) host
 lost_or_left journal batch left host sound more (inl lost) = subst (λ l. Sound (settled journal l) host) (sym lost) (nothing_settled journal host sound)
 lost_or_left journal batch left host sound more (inr kept) = subst (λ l. Sound (settled journal l) host) (sym kept) (settled_sound journal batch host more)
 

@@ -1,7 +1,7 @@
 -- The laws of steps and turns, as statements. Each is the contract of the function of its name.
 use Rattle.std.specs.Prelude.{◌≡◌, ℕ, ◌≤◌, List, ◌++◌, length, All, true, false, ◌⊎◌}
 use Rattle.definitions.specs.Step.{Used}
-use Rattle.record_rules.specs.Records.{Caller, Entry}
+use Rattle.record_rules.specs.Records.{SealedRecord, Caller, Entry}
 use Rattle.record_rules.specs.Journal.{chain, IsNumbered, Sound}
 use Rattle.view_rules.specs.Views.{OpensByTag}
 use Rattle.step_rules.specs.Calls.{Call, CallFits, is_read}
@@ -9,6 +9,7 @@ use Rattle.step_rules.specs.Answers.{Refusal, Answer, refused, Reply}
 use Rattle.step_rules.specs.Store.{KeyedStore, SealsWell, HasCommand, HasAlias}
 use Rattle.step_rules.specs.Step.{Shows, Step}
 use Rattle.step_rules.specs.Turn.{settled, Turn}
+use Rattle.step_rules.specs.PageTurns.{PageAnswer, PageTurn}
 
 -- a step from a sound journal leaves a sound journal
 abbrev pub StepKeepsSound : Type 0
@@ -58,3 +59,10 @@ TurnTellsFront = (store : KeyedStore) (journal doubt : List Entry) (caller : Cal
 -- a turn only adds
 abbrev pub TurnOnlyAdds : Type 0
 TurnOnlyAdds = (store : KeyedStore) (journal doubt : List Entry) (caller : Caller) (call : Call) (used : Used) (after doubt_after : List Entry) (reply : Reply) → Turn store journal doubt caller call used after doubt_after reply → (added : List Entry) × (after ≡ journal ++ added)
+
+-- the same of a turn with a page
+abbrev pub PageTurnKeepsSound : Type 0
+PageTurnKeepsSound = (journal doubt : List Entry) (caller : Caller) (owner : ℕ) (records : List SealedRecord) (after doubt_after : List Entry) (answer : PageAnswer) (host : ℕ) → Sound journal host → Sound (settled journal doubt) host → PageTurn journal doubt caller owner records after doubt_after answer → Sound after host × Sound (settled after doubt_after) host
+
+abbrev pub PageTurnOnlyAdds : Type 0
+PageTurnOnlyAdds = (journal doubt : List Entry) (caller : Caller) (owner : ℕ) (records : List SealedRecord) (after doubt_after : List Entry) (answer : PageAnswer) → PageTurn journal doubt caller owner records after doubt_after answer → (added : List Entry) × (after ≡ journal ++ added)

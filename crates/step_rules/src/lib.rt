@@ -8,7 +8,7 @@
 //! Each function has an empty body, and its contract is the law that its name says.
 #![tactic(auto)]
 
-ghost use Rattle.step_rules.specs.Laws.{StepKeepsSound, StepNumbersChains, StepAddsOne, RefusalLeaves, ReadLeaves, StepHasOutcome, WriteHasOneOutcome, StepHasOneOutcome, TurnKeepsSound, TurnTellsFront, TurnOnlyAdds};
+ghost use Rattle.step_rules.specs.Laws.{StepKeepsSound, StepNumbersChains, StepAddsOne, RefusalLeaves, ReadLeaves, StepHasOutcome, WriteHasOneOutcome, StepHasOneOutcome, TurnKeepsSound, TurnTellsFront, TurnOnlyAdds, PageTurnKeepsSound, PageTurnOnlyAdds};
 ghost use Rattle.step_rules.specs.Examples.{WorkedCommand, WorkedTexts, WorkedViews, WorkedDoubt};
 
 /// A step from a sound journal leaves a sound journal.
@@ -67,6 +67,16 @@ pub fn turn_tells_front()
 /// A turn keeps the journal as the front of what it leaves.
 pub fn turn_only_adds()
     ensures { TurnOnlyAdds }
+{}
+
+/// A turn with a page leaves a sound journal, which stays sound when what is in doubt is settled.
+pub fn page_turn_keeps_sound()
+    ensures { PageTurnKeepsSound }
+{}
+
+/// A turn with a page keeps the journal as the front of what it leaves.
+pub fn page_turn_only_adds()
+    ensures { PageTurnOnlyAdds }
 {}
 
 /// A command, worked out: its start and its end, the same again, and an end of what never ran.

@@ -1,0 +1,4 @@
+pub mod Arguments
+pub mod Requests
+pub mod Fitting
+pub mod Examples

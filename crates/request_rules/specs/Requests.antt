@@ -1,0 +1,145 @@
+-- Which payload spells which call, and where a payload that spells none goes wrong. A payload is a MessagePack array of
+-- the call's number and its arguments.
+use Rattle.std.specs.Prelude.{◌≡◌, ◌≢◌, ℕ, ◌+◌, ◌-◌, ◌<◌, ◌≤◌, ◌^◌, pos, List, [], ◌∷◌, ◌++◌, length, Bool, true, false, Option, Some, None, IsSome, ◌==◌, if◌then◌else◌}
+use Rattle.definitions.specs.Spelling.{SpellsInteger, SpellsArray}
+use Rattle.definitions.specs.Ids.{id_text}
+use Rattle.definitions.specs.Calls.{mode_number, Argument, a_text, an_integer, Kind, any_text, id_digits, signed_64, from_to, SpellsArguments, NoFront, IsHeader, IsArgument}
+use Rattle.view_rules.specs.Answers.{Scope, of_all, of_hostname, of_session, of_cwd, ScopedQuery}
+use Rattle.step_rules.specs.Calls.{most_listed, Call, start_call, end_call, delete_call, search_call, kv_set_call, kv_get_call, kv_list_call, alias_set_call, alias_delete_call, alias_list_call, status_call}
+
+-- ---- calls by their numbers
+
+abbrev pub number_of : Call → ℕ
+number_of (start_call command cwd session hostname) = 1
+number_of (end_call id duration exit) = 2
+number_of (delete_call id) = 3
+number_of (search_call asked) = 4
+number_of (kv_set_call namespace key value) = 5
+number_of (kv_get_call namespace key) = 6
+number_of (kv_list_call namespace after limit) = 7
+number_of (alias_set_call name value) = 8
+number_of (alias_delete_call name) = 9
+number_of (alias_list_call after limit) = 10
+number_of status_call = 11
+
+-- hits, keys or aliases that are asked for
+abbrev pub limit_kind : Kind
+limit_kind = from_to 1 most_listed
+
+-- command, working directory, session and host name
+abbrev pub start_kinds : List Kind
+start_kinds = any_text ∷ any_text ∷ any_text ∷ any_text ∷ []
+
+-- the id, the duration in nanoseconds and the exit status
+abbrev pub end_kinds : List Kind
+end_kinds = id_digits ∷ signed_64 ∷ signed_64 ∷ []
+
+abbrev pub delete_kinds : List Kind
+delete_kinds = id_digits ∷ []
+
+-- mode, filter, text of the filter, text, whether hits are unique, offset and limit
+abbrev pub search_kinds : List Kind
+search_kinds = from_to 0 1 ∷ from_to 0 3 ∷ any_text ∷ any_text ∷ from_to 0 1 ∷ from_to 0 (2 ^ 32 - 1) ∷ limit_kind ∷ []
+
+-- one, two or three texts
+abbrev pub one_text : List Kind
+one_text = any_text ∷ []
+
+abbrev pub two_texts : List Kind
+two_texts = any_text ∷ any_text ∷ []
+
+abbrev pub three_texts : List Kind
+three_texts = any_text ∷ any_text ∷ any_text ∷ []
+
+-- the namespace, the key after which the list begins, and the limit
+abbrev pub kv_list_kinds : List Kind
+kv_list_kinds = any_text ∷ any_text ∷ limit_kind ∷ []
+
+-- the name after which the list begins, and the limit
+abbrev pub alias_list_kinds : List Kind
+alias_list_kinds = any_text ∷ limit_kind ∷ []
+
+abbrev pub no_kinds : List Kind
+no_kinds = []
+
+-- what the arguments of the call of a number are; no other number is that of a call
+abbrev pub call_kinds : ℕ → Option (List Kind)
+call_kinds n =
+    if n == 1 then Some start_kinds else (if n == 2 then Some end_kinds else (if n == 3 then Some delete_kinds else (if n == 4 then Some search_kinds else (if n == 5 then Some three_texts else (if n == 6 then Some two_texts else (if n == 7 then Some kv_list_kinds else (if n == 8 then Some two_texts else (if n == 9 then Some one_text else (if n == 10 then Some alias_list_kinds else (if n == 11 then Some no_kinds else None))))))))))
+
+-- ---- the arguments of a call
+
+abbrev pub scope_number : Scope → ℕ
+scope_number of_all = 0
+scope_number (of_hostname text) = 1
+scope_number (of_session text) = 2
+scope_number (of_cwd text) = 3
+
+-- the text that stands beside a scope's number: any, where the search is of all
+abbrev pub IsScopeText : Scope → List ℕ → Type 0
+IsScopeText of_all text = Unit {0}
+IsScopeText (of_hostname hostname) text = text ≡ hostname
+IsScopeText (of_session session) text = text ≡ session
+IsScopeText (of_cwd cwd) text = text ≡ cwd
+
+abbrev pub unique_number : Bool → ℕ
+unique_number false = 0
+unique_number true = 1
+
+abbrev pub a_number : ℕ → Argument
+a_number n = an_integer (pos n)
+
+-- an id is given by its 32 digits
+abbrev pub an_id : ℕ → Argument
+an_id id = a_text (id_text id)
+
+abbrev pub search_arguments : ScopedQuery → List ℕ → List Argument
+search_arguments asked scope_text =
+    a_number (mode_number asked.query.mode) ∷ a_number (scope_number asked.scope) ∷ a_text scope_text ∷ a_text asked.query.text ∷ a_number (unique_number asked.unique) ∷ a_number asked.query.offset ∷ a_number asked.query.limit ∷ []
+
+-- these are arguments of the call; an id has 128 bits
+abbrev pub HasArguments : Call → List Argument → Type 0
+HasArguments (start_call command cwd session hostname) arguments = arguments ≡ a_text command ∷ a_text cwd ∷ a_text session ∷ a_text hostname ∷ []
+HasArguments (end_call id duration exit) arguments = (id < 2 ^ 128) × (arguments ≡ an_id id ∷ an_integer duration ∷ an_integer exit ∷ [])
+HasArguments (delete_call id) arguments = (id < 2 ^ 128) × (arguments ≡ an_id id ∷ [])
+HasArguments (search_call asked) arguments = (scope_text : List ℕ) × IsScopeText asked.scope scope_text × (arguments ≡ search_arguments asked scope_text)
+HasArguments (kv_set_call namespace key value) arguments = arguments ≡ a_text namespace ∷ a_text key ∷ a_text value ∷ []
+HasArguments (kv_get_call namespace key) arguments = arguments ≡ a_text namespace ∷ a_text key ∷ []
+HasArguments (kv_list_call namespace after limit) arguments = arguments ≡ a_text namespace ∷ a_text after ∷ a_number limit ∷ []
+HasArguments (alias_set_call name value) arguments = arguments ≡ a_text name ∷ a_text value ∷ []
+HasArguments (alias_delete_call name) arguments = arguments ≡ a_text name ∷ []
+HasArguments (alias_list_call after limit) arguments = arguments ≡ a_text after ∷ a_number limit ∷ []
+HasArguments status_call arguments = arguments ≡ []
+
+-- ---- payloads
+
+-- an array of the call's number and its arguments, in any widths that hold them
+pub record SpellsRequest (call : Call) (payload : List ℕ) : Type 0 where
+  pub header : List ℕ
+  pub number : List ℕ
+  pub rest : List ℕ
+  pub all_kinds : List Kind
+  pub arguments : List Argument
+  pub kinds_are : call_kinds (number_of call) ≡ Some all_kinds
+  pub has : HasArguments call arguments
+  pub is_header : SpellsArray (1 + length all_kinds) header
+  pub is_number : SpellsInteger (pos (number_of call)) number
+  pub are_arguments : SpellsArguments all_kinds arguments rest
+  pub are : payload ≡ header ++ (number ++ rest)
+
+-- the number of one of the calls
+abbrev pub IsCallNumber : List ℕ → Type 0
+IsCallNumber bytes = (n : ℕ) × IsSome (call_kinds n) × SpellsInteger (pos n) bytes
+
+-- Reading from the left, the first wrong item of the payload has its first byte at this place. The header is of 1 to 8
+-- items. The number is judged before the array's length, and a wrong length is a fault of the header, at place 0. Then
+-- comes each argument, and then what stands behind the call. An item that is cut is wrong at its first byte.
+pub data WrongRequest (payload : List ℕ) (place : ℕ) : Type 0 where
+  wrong_header : NoFront IsHeader payload → place ≡ 0 → WrongRequest payload place
+  wrong_number : (header rest : List ℕ) → payload ≡ header ++ rest → IsHeader header → NoFront IsCallNumber rest → place ≡ length header → WrongRequest payload place
+  wrong_length : (n c : ℕ) (header number rest : List ℕ) (all_kinds : List Kind) → payload ≡ header ++ (number ++ rest) → SpellsArray n header → 1 ≤ n → n ≤ 8
+      → SpellsInteger (pos c) number → call_kinds c ≡ Some all_kinds → n ≢ 1 + length all_kinds → place ≡ 0 → WrongRequest payload place
+  wrong_argument : (c : ℕ) (header number read rest : List ℕ) (before : List Kind) (kind : Kind) (after : List Kind) (good : List Argument) → payload ≡ header ++ (number ++ (read ++ rest))
+      → SpellsArray (1 + length (before ++ kind ∷ after)) header → SpellsInteger (pos c) number → call_kinds c ≡ Some (before ++ kind ∷ after) → SpellsArguments before good read
+      → NoFront (IsArgument kind) rest → place ≡ length (header ++ (number ++ read)) → WrongRequest payload place
+  left_over : (call : Call) (spelled rest : List ℕ) → payload ≡ spelled ++ rest → SpellsRequest call spelled → rest ≢ [] → place ≡ length spelled → WrongRequest payload place

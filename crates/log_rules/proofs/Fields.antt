@@ -6,7 +6,8 @@ use Rattle.std.proofs.lemmas.List.{take_at, drop_at}
 use Rattle.std.proofs.Math.Arith.{mod-mul}
 use Rattle.std.proofs.Math.Nat.{mod-eq_of_lt, pow-suc, pow-succ'}
 use Rattle.std.specs.Int.{w32, w64, w128, to_be_bytes, byte_at, bytes_high_first}
-use Rattle.record_rules.specs.Records.{SealedRecord, StartedEntry, Event, Started, Local, Taken}
+use Rattle.definitions.specs.Journal.{StartedRecord}
+use Rattle.record_rules.specs.Records.{SealedRecord, Event, Started, Local, Taken}
 use Rattle.log_rules.specs.Body.{IsText, HasRecordBytes, HasStartedBytes, HasEventBytes, text_bytes, record_bytes, started_bytes, closes_bytes, event_bytes, body_bytes, IsBatch}
 
 -- the values that have P are told apart by their bytes, whatever follows
@@ -204,13 +205,13 @@ started_through_hostname x = started_through_session x.0 ++ text_bytes x.1
 started_through_hostname_apart : Apart StartedThroughHostname started_through_hostname
 started_through_hostname_apart = both StartedThroughSession IsText started_through_session text_bytes started_through_session_apart text_apart
 
-abbrev started_parts : StartedEntry → ((((ℕ × ℕ) × List ℕ) × List ℕ) × List ℕ) × List ℕ
+abbrev started_parts : StartedRecord → ((((ℕ × ℕ) × List ℕ) × List ℕ) × List ℕ) × List ℕ
 started_parts s = (((((s.id, s.timestamp), s.command), s.cwd), s.session), s.hostname)
 
-abbrev started_of_parts : ((((ℕ × ℕ) × List ℕ) × List ℕ) × List ℕ) × List ℕ → StartedEntry
+abbrev started_of_parts : ((((ℕ × ℕ) × List ℕ) × List ℕ) × List ℕ) × List ℕ → StartedRecord
 started_of_parts p = record { id = p.0.0.0.0.0; timestamp = p.0.0.0.0.1; command = p.0.0.0.1; cwd = p.0.0.1; session = p.0.1; hostname = p.1 }
 
-started_has : (s : StartedEntry) → HasStartedBytes s → StartedThroughHostname (started_parts s)
+started_has : (s : StartedRecord) → HasStartedBytes s → StartedThroughHostname (started_parts s)
 started_has s has = (((((has.id, has.timestamp), has.command), has.cwd), has.session), has.hostname)
 
 pub started_apart : Apart HasStartedBytes started_bytes

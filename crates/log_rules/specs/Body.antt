@@ -3,7 +3,8 @@ use Rattle.std.specs.Prelude.{ℕ, ◌<◌, ◌≤◌, ◌^◌, List, [], ◌∷
 use Rattle.std.specs.List.{flat_map, AllByRecursion}
 use Rattle.std.specs.Int.{w32, w64, w128, to_be_bytes}
 use Rattle.std.specs.Str.{IsUtf8}
-use Rattle.record_rules.specs.Records.{SealedRecord, StartedEntry, Event, Started, Local, Taken}
+use Rattle.definitions.specs.Journal.{StartedRecord}
+use Rattle.record_rules.specs.Records.{SealedRecord, Event, Started, Local, Taken}
 
 -- ---- what has a spelling
 
@@ -24,7 +25,7 @@ pub record HasRecordBytes (r : SealedRecord) : Type 0 where
   pub sealed : IsText r.sealed
   pub wrapped : IsText r.wrapped
 
-pub record HasStartedBytes (s : StartedEntry) : Type 0 where
+pub record HasStartedBytes (s : StartedRecord) : Type 0 where
   pub id : s.id < 2 ^ 128
   pub timestamp : s.timestamp < 2 ^ 64
   pub command : IsText s.command
@@ -56,7 +57,7 @@ abbrev pub record_bytes : SealedRecord → List ℕ
 record_bytes r = to_be_bytes w128 r.id ++ to_be_bytes w64 r.idx ++ to_be_bytes w128 r.host ++ text_bytes r.host_name ++ to_be_bytes w64 r.timestamp ++ text_bytes r.version ++ text_bytes r.tag ++ text_bytes r.sealed ++ text_bytes r.wrapped
 
 -- id, timestamp, command, cwd, session, hostname
-abbrev pub started_bytes : StartedEntry → List ℕ
+abbrev pub started_bytes : StartedRecord → List ℕ
 started_bytes s = to_be_bytes w128 s.id ++ to_be_bytes w64 s.timestamp ++ text_bytes s.command ++ text_bytes s.cwd ++ text_bytes s.session ++ text_bytes s.hostname
 
 -- 00, or 01 and the id that is closed

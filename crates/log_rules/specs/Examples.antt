@@ -1,6 +1,7 @@
 -- Worked examples: a new log, and the log of one started command, byte by byte.
 use Rattle.std.specs.Prelude.{◌≡◌, ℕ, List, [], ◌∷◌, ◌++◌, length, take, drop, replicate, slice_get, codes, Some, None}
-use Rattle.record_rules.specs.Records.{SealedRecord, StartedEntry, Entry, Event, Started, Local, Taken}
+use Rattle.definitions.specs.Journal.{StartedRecord}
+use Rattle.record_rules.specs.Records.{SealedRecord, Entry, Event, Started, Local, Taken}
 use Rattle.log_rules.specs.Body.{event_bytes, body_bytes, IsBatch}
 use Rattle.log_rules.specs.Log.{NotALog, header_bytes, batch_bytes, StandsFor, DamagedAt, header_fault}
 
@@ -9,7 +10,7 @@ abbrev pub worked_id : ℕ
 worked_id = 0x018bcfe5680070018203040506070809
 
 -- `ls` in `/`, session `s1`, host and user `h:u`, started at 2023-11-14 22:13:20 UTC
-abbrev pub started_ls : StartedEntry
+abbrev pub started_ls : StartedRecord
 started_ls = record { id = worked_id; timestamp = 1700000000000000000; command = codes "ls"; cwd = codes "/"; session = codes "s1"; hostname = codes "h:u" }
 
 abbrev pub ls_entry : Entry

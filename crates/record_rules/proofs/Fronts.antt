@@ -7,8 +7,9 @@ use Rattle.std.proofs.lemmas.Option.{slice_get_within}
 use Rattle.std.proofs.lemmas.List.{append-nil, take_at, take-append-le, get_or_append_left, get_or_push, length_push}
 use Rattle.std.proofs.lemmas.List.Sums.{sum_by-append}
 use Rattle.std.proofs.lemmas.List.Elements.{filter-append, filter_map-append}
+use Rattle.definitions.specs.Journal.{StartedRecord}
 use Rattle.record_rules.specs.Limits.{most_entries, most_held_weight, most_places}
-use Rattle.record_rules.specs.Records.{SealedRecord, StartedEntry, Entry, Event, Started, Local, Taken, event_weight}
+use Rattle.record_rules.specs.Records.{SealedRecord, Entry, Event, Started, Local, Taken, event_weight}
 use Rattle.record_rules.specs.Journal.{event_owner, event_record, event_place, own, events_of, own_events, records_of, in_place, IsNumbered, EventFits, IsOfHost, TotalsFit, held_of, places_of, places_added, limit_passed, closes_id, is_running, PassedLimit, Sound, MayFollow}
 use Rattle.record_rules.proofs.Options.{slice_get_front, slice_get_last}
 use Rattle.record_rules.proofs.Spots.{in_place_itself}
@@ -45,7 +46,7 @@ closes_last events (Taken owner r) all closed closes = absurd (true≢false (sym
 apart_front : (events : List Event) (event : Event) → StartedApart (events ++ event ∷ []) → StartedApart events
 apart_front events event all i k s t below at_i at_k = all i k s t below (slice_get_kept events (event ∷ []) i (Started s) at_i) (slice_get_kept events (event ∷ []) k (Started t) at_k)
 
-apart_last : (events : List Event) (event : Event) → StartedApart (events ++ event ∷ []) → (k : ℕ) (s t : StartedEntry) → slice_get events k ≡ Some (Started s) → event ≡ Started t → s.id ≢ t.id
+apart_last : (events : List Event) (event : Event) → StartedApart (events ++ event ∷ []) → (k : ℕ) (s t : StartedRecord) → slice_get events k ≡ Some (Started s) → event ≡ Started t → s.id ≢ t.id
 apart_last events event all k s t at is = all k (length events) s t (slice_get_within events k (Started s) at) (slice_get_kept events (event ∷ []) k (Started s) at) (slice_get_last events event ∙ ap Some is)
 
 -- ---- totals

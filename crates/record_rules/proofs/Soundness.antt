@@ -5,7 +5,8 @@ use Rattle.std.proofs.lemmas.Bool.{eq-eqb, ne_eqb, cases_eq}
 use Rattle.std.proofs.lemmas.Option.{none-some}
 use Rattle.std.proofs.lemmas.List.{append-nil, map-append, take_at, take-append-le}
 use Rattle.std.proofs.lemmas.List.Elements.{All-push}
-use Rattle.record_rules.specs.Records.{SealedRecord, StartedEntry, Entry, Event, Started, Local, Taken, event_weight}
+use Rattle.definitions.specs.Journal.{StartedRecord}
+use Rattle.record_rules.specs.Records.{SealedRecord, Entry, Event, Started, Local, Taken, event_weight}
 use Rattle.record_rules.specs.Journal.{event_owner, event_place, own, events_of, own_events, records_of, in_place, IsNumbered, EventFits, IsOfHost, TotalsFit, held_of, closes_id, is_running, Sound, MayFollow}
 use Rattle.record_rules.proofs.Options.{slice_get_push, slice_get_front}
 use Rattle.record_rules.proofs.Numbering.{chains_stay_numbered}
@@ -27,9 +28,9 @@ closes_more events event before here k closed r at =
 
 -- the ids of started commands differ, with one more event
 abbrev pub StartedApart : List Event → Type 0
-StartedApart events = (i k : ℕ) (s t : StartedEntry) → i < k → slice_get events i ≡ Some (Started s) → slice_get events k ≡ Some (Started t) → s.id ≢ t.id
+StartedApart events = (i k : ℕ) (s t : StartedRecord) → i < k → slice_get events i ≡ Some (Started s) → slice_get events k ≡ Some (Started t) → s.id ≢ t.id
 
-apart_more : (events : List Event) (event : Event) → StartedApart events → ((k : ℕ) (s t : StartedEntry) → slice_get events k ≡ Some (Started s) → event ≡ Started t → s.id ≢ t.id) → StartedApart (events ++ event ∷ [])
+apart_more : (events : List Event) (event : Event) → StartedApart events → ((k : ℕ) (s t : StartedRecord) → slice_get events k ≡ Some (Started s) → event ≡ Started t → s.id ≢ t.id) → StartedApart (events ++ event ∷ [])
 apart_more events event before here i k s t below at_i at_k =
     elim (slice_get_push events event (Started t) k at_k) [
       | inl old ↦
@@ -69,10 +70,10 @@ module _ (journal : List Entry) (entry : Entry) where
     held_fits = λ owner. by_owner (λ owned. TotalsFit (held_of owned)) owner (sound.held_fits owner) (TotalsFit-more (own_events journal (event_owner entry.event)) entry.event (room_from_none (own_events journal (event_owner entry.event)) (event_weight entry.event) (event_place entry.event) follows.held_fits));
   }
 
-pub taken_not_started : (owner : ℕ) (r : SealedRecord) (s : StartedEntry) → Taken owner r ≡ Started s → ⊥
+pub taken_not_started : (owner : ℕ) (r : SealedRecord) (s : StartedRecord) → Taken owner r ≡ Started s → ⊥
 taken_not_started owner r s same = cc
 
-pub local_not_started : (closes : Option ℕ) (r : SealedRecord) (s : StartedEntry) → Local closes r ≡ Started s → ⊥
+pub local_not_started : (closes : Option ℕ) (r : SealedRecord) (s : StartedRecord) → Local closes r ≡ Started s → ⊥
 local_not_started closes r s same = cc
 
 pub empty_sound : (host : ℕ) → Sound [] host

@@ -1,6 +1,7 @@
 -- Worked examples: what the definitions give at small journals, with the numbers written out.
 use Rattle.std.specs.Prelude.{true, ◌≡◌, ◌≢◌, ◌++◌, ℕ, zero, suc, ◌+◌, List, [], ◌∷◌, length, map, replicate, sum_by, codes, Option, Some, None, Ok, Err}
-use Rattle.record_rules.specs.Records.{SealedRecord, StartedEntry, Caller, Entry, Event, Started, Local, Taken, record_weight, page_weight, event_weight}
+use Rattle.definitions.specs.Journal.{StartedRecord}
+use Rattle.record_rules.specs.Records.{SealedRecord, Caller, Entry, Event, Started, Local, Taken, record_weight, page_weight, event_weight}
 use Rattle.record_rules.specs.Journal.{chain, ChainPlace, own_events, records_of, places_of, places_added, status, held, fits, running, StartedFits, RecordFits, EventFits, Sound}
 use Rattle.record_rules.specs.Growth.{is_fresh, too_long_at, PageTooLong, PageForked, PageGap, PageFull, taken_entry, grow}
 use Rattle.record_rules.specs.Answers.{page, AskStatus, AskPage, SendPage, StatusIs, PageIs, PageAdded, PageRefused, replies}
@@ -24,7 +25,7 @@ kv_page zero idx = []
 kv_page (suc count) idx = kv_record idx (idx + 1000) ∷ kv_page count (idx + 1)
 
 -- a command that was started with this id
-abbrev pub started_ls : ℕ → StartedEntry
+abbrev pub started_ls : ℕ → StartedRecord
 started_ls id = record { id = id; timestamp = 0; command = codes "ls"; cwd = codes "/"; session = codes "s1"; hostname = codes "h:u" }
 
 abbrev pub entry_of : Event → Entry
@@ -52,11 +53,11 @@ pub record WorkedTotals : Type 0 where
 
 -- texts and weights at their limits, and one byte above
 pub record WorkedLimits : Type 0 where
-  pub started_at_most : (s : StartedEntry) → length s.command ≡ 262144 → length s.cwd ≡ 4096 → length s.session ≡ 4096 → length s.hostname ≡ 4096 → StartedFits s
-  pub command_above : (s : StartedEntry) → length s.command ≡ 262145 → EventFits (Started s) → ⊥
-  pub cwd_above : (s : StartedEntry) → length s.cwd ≡ 4097 → EventFits (Started s) → ⊥
-  pub session_above : (s : StartedEntry) → length s.session ≡ 4097 → EventFits (Started s) → ⊥
-  pub hostname_above : (s : StartedEntry) → length s.hostname ≡ 4097 → EventFits (Started s) → ⊥
+  pub started_at_most : (s : StartedRecord) → length s.command ≡ 262144 → length s.cwd ≡ 4096 → length s.session ≡ 4096 → length s.hostname ≡ 4096 → StartedFits s
+  pub command_above : (s : StartedRecord) → length s.command ≡ 262145 → EventFits (Started s) → ⊥
+  pub cwd_above : (s : StartedRecord) → length s.cwd ≡ 4097 → EventFits (Started s) → ⊥
+  pub session_above : (s : StartedRecord) → length s.session ≡ 4097 → EventFits (Started s) → ⊥
+  pub hostname_above : (s : StartedRecord) → length s.hostname ≡ 4097 → EventFits (Started s) → ⊥
   pub record_at_most : (r : SealedRecord) → length r.host_name ≡ 4096 → length r.version ≡ 256 → length r.tag ≡ 256 → record_weight r ≡ 4194304 → RecordFits r
   pub host_name_above : (r : SealedRecord) → length r.host_name ≡ 4097 → EventFits (Local None r) → ⊥
   pub version_above : (r : SealedRecord) → length r.version ≡ 257 → EventFits (Taken 5 r) → ⊥

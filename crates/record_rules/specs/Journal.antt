@@ -6,8 +6,9 @@ use Rattle.std.specs.declared.cmp.Ordering.{Ordering}
 use Rattle.std.specs.declared.cmp.Ordering.TheVariants.{Less}
 use Rattle.std.specs.Ordering.{is_lt, nat_cmp, ordering_then}
 use Rattle.std.specs.Cmp.Lexicographic.{slice_cmp}
+use Rattle.definitions.specs.Journal.{StartedRecord}
 use Rattle.record_rules.specs.Limits.{most_value_bytes, most_name_bytes, most_tag_bytes, most_page_weight, most_entries, most_held_weight, most_places}
-use Rattle.record_rules.specs.Records.{SealedRecord, StartedEntry, Entry, Event, Started, Local, Taken, record_weight, event_weight}
+use Rattle.record_rules.specs.Records.{SealedRecord, Entry, Event, Started, Local, Taken, record_weight, event_weight}
 
 -- ---- what an owner holds
 
@@ -150,14 +151,14 @@ closes_id id (Local (Some closed) r) = closed == id
 closes_id id (Taken owner r) = false
 
 -- the started commands that no later event closes, in order
-abbrev pub still_running : List Event → List StartedEntry
+abbrev pub still_running : List Event → List StartedRecord
 still_running [] = []
 still_running (Started s ∷ later) = if list_any (closes_id s.id) later then still_running later else s ∷ still_running later
 still_running (Local closes r ∷ later) = still_running later
 still_running (Taken owner r ∷ later) = still_running later
 
 -- the commands that are running
-abbrev pub running : List Entry → List StartedEntry
+abbrev pub running : List Entry → List StartedRecord
 running journal = still_running (events_of journal)
 
 -- whether a command with that id is running
@@ -178,7 +179,7 @@ pub record RecordFits (r : SealedRecord) : Type 0 where
   pub weight : record_weight r ≤ most_page_weight
 
 -- the started command's texts are within their limits
-pub record StartedFits (s : StartedEntry) : Type 0 where
+pub record StartedFits (s : StartedRecord) : Type 0 where
   pub command : length s.command ≤ most_value_bytes
   pub cwd : length s.cwd ≤ most_name_bytes
   pub session : length s.session ≤ most_name_bytes
@@ -211,7 +212,7 @@ pub record Sound (journal : List Entry) (host : ℕ) : Type 0 where
   -- an entry closes only an id that is running among the entries before it
   pub closes_running : (k closed : ℕ) (r : SealedRecord) → slice_get (events_of journal) k ≡ Some (Local (Some closed) r) → IsTrue (is_running closed (take k (events_of journal)))
   -- the ids of two started commands differ
-  pub started_apart : (i k : ℕ) (s t : StartedEntry) → i < k → slice_get (events_of journal) i ≡ Some (Started s) → slice_get (events_of journal) k ≡ Some (Started t) → s.id ≢ t.id
+  pub started_apart : (i k : ℕ) (s t : StartedRecord) → i < k → slice_get (events_of journal) i ≡ Some (Started s) → slice_get (events_of journal) k ≡ Some (Started t) → s.id ≢ t.id
   -- texts and weights are within their limits
   pub events_fit : All EventFits (events_of journal)
   -- what each owner holds is within the limits
@@ -230,6 +231,6 @@ pub record MayFollow (journal : List Entry) (host : ℕ) (event : Event) : Type 
   pub numbered : IfSome (event_record event) (λ r. r.idx ≡ length (chain journal (event_owner event) r.host r.tag))
   pub made_here : IsOfHost host event
   pub closes_running : (closed : ℕ) → IsTrue (closes_id closed event) → IsTrue (is_running closed (events_of journal))
-  pub started_apart : (k : ℕ) (s t : StartedEntry) → slice_get (events_of journal) k ≡ Some (Started s) → event ≡ Started t → s.id ≢ t.id
+  pub started_apart : (k : ℕ) (s t : StartedRecord) → slice_get (events_of journal) k ≡ Some (Started s) → event ≡ Started t → s.id ≢ t.id
   pub event_fits : EventFits event
   pub held_fits : fits journal (event_owner event) (event_weight event) (event_place event) ≡ None

@@ -1,5 +1,6 @@
 -- What a journal is made of, as numbers and lists of bytes. Hosts and ids are numbers below 2 ^ 128, a text is the list of its bytes.
 use Rattle.std.specs.Prelude.{ℕ, ◌+◌, List, length, sum_by, Option}
+use Rattle.definitions.specs.Journal.{StartedRecord}
 use Rattle.record_rules.specs.Limits.{fixed_weight}
 
 -- a sealed record: the idx is its place in the chain of its host and tag, the timestamp is in nanoseconds since 1970
@@ -14,15 +15,6 @@ pub record SealedRecord : Type 0 where
   pub sealed : List ℕ
   pub wrapped : List ℕ
 
--- a command that was started: its history id, the time of its start, and its four texts
-pub record StartedEntry : Type 0 where
-  pub id : ℕ
-  pub timestamp : ℕ
-  pub command : List ℕ
-  pub cwd : List ℕ
-  pub session : List ℕ
-  pub hostname : List ℕ
-
 -- whose call an entry came by: the number of its pass, the number of the call in that pass, and the pass that a commit in doubt was settled for, or 0
 pub record Caller : Type 0 where
   pub number : ℕ
@@ -31,7 +23,7 @@ pub record Caller : Type 0 where
 
 -- what an entry says: a command was started; this store made a record, which may close a started command's id; a record was taken in for an owner
 pub data Event : Type 0 where
-  Started : StartedEntry → Event
+  Started : StartedRecord → Event
   Local : (closes : Option ℕ) → SealedRecord → Event
   Taken : (owner : ℕ) → SealedRecord → Event
 
@@ -49,7 +41,7 @@ abbrev pub page_weight : List SealedRecord → ℕ
 page_weight page = sum_by record_weight page
 
 -- what a started command weighs, in bytes
-abbrev pub started_weight : StartedEntry → ℕ
+abbrev pub started_weight : StartedRecord → ℕ
 started_weight s = fixed_weight + length s.command + length s.cwd + length s.session + length s.hostname
 
 -- what an entry's event weighs, in bytes

@@ -6,8 +6,8 @@
 //! numbers and lists of bytes, so that no type of the code is named here. What is inside a sealed
 //! record is nowhere opened.
 //!
-//! Each function has an empty body, and its contract is the law that its name says. The crate stands
-//! on no other one.
+//! Each function has an empty body, and its contract is the law that its name says. Of `definitions`
+//! the crate takes what a started command is.
 #![tactic(auto)]
 
 ghost use Rattle.record_rules.specs.Laws.{EmptyIsSound, EntryKeepsSound, SoundEntryFollows, FrontIsSound, StatusTellsLengths, StatusListsNoEmpty, StatusAscends, LengthsMakeStatus, PageIsLongest, GrowthKeepsSound, RefusalLeavesAll, TakenPageFits, NextPageIsTaken, RecordsPastHundred, GrowthExtendsChains, GrowthLeavesOthers, GrowthHoldsPage, RepeatAddsNothing, StandingAddsNothing, RepliesAlike, RepliesAlone, RepliesAsAlone, SliceNeverForks, SliceKeepsFront, SliceLeavesOtherChains};

@@ -1,12 +1,12 @@
 -- What a payload of limited length spells is within the limits of a call.
 use Rattle.std.proofs.Common.{◌≡◌, ℕ, ◌+◌, ◌*◌, ◌<◌, ◌≤◌, pos, List, [], ◌∷◌, ◌++◌, length, Some, refl, sym, ap, subst, ◌∙◌, length-append, arith, inl, inr, ◌⊎◌}
 use Rattle.definitions.specs.Spelling.{SpellsInteger, SpellsArray, TextForm, fixstr, str_8, str_16, str_32, text_limit, text_head, SpellsText}
-use Rattle.definitions.specs.Calls.{Argument, a_text, an_integer, Kind, SpellsArgument, SpellsArguments}
+use Rattle.definitions.specs.Calls.{Argument, a_text, an_integer, Kind, end_kinds, SpellsArgument, SpellsArguments}
 use Rattle.definitions.specs.Reading.{integer_at, array_at}
 use Rattle.definitions.proofs.Spelling.{integers_read, arrays_read}
 use Rattle.view_rules.specs.Answers.{Scope, of_all, of_hostname, of_session, of_cwd}
 use Rattle.step_rules.specs.Calls.{Call, start_call, end_call, delete_call, search_call, kv_set_call, kv_get_call, kv_list_call, alias_set_call, alias_delete_call, alias_list_call, status_call, scope_bytes, call_bytes, NumbersFit}
-use Rattle.request_rules.specs.Requests.{number_of, end_kinds, search_kinds, kv_list_kinds, alias_list_kinds, IsScopeText, a_number, an_id, search_arguments, HasArguments, SpellsRequest}
+use Rattle.request_rules.specs.Requests.{number_of, search_kinds, kv_list_kinds, alias_list_kinds, IsScopeText, a_number, an_id, search_arguments, HasArguments, SpellsRequest}
 use Rattle.request_rules.specs.Laws.{SpelledCallFits}
 use Rattle.request_rules.proofs.Arguments.{some_kinds, same_kinds, most_kinds}
 

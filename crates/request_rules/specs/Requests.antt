@@ -3,7 +3,7 @@
 use Rattle.std.specs.Prelude.{◌≡◌, ◌≢◌, ℕ, ◌+◌, ◌-◌, ◌<◌, ◌≤◌, ◌^◌, pos, List, [], ◌∷◌, ◌++◌, length, Bool, true, false, Option, Some, None, IsSome, ◌==◌, if◌then◌else◌}
 use Rattle.definitions.specs.Spelling.{SpellsInteger, SpellsArray}
 use Rattle.definitions.specs.Ids.{id_text}
-use Rattle.definitions.specs.Calls.{mode_number, Argument, a_text, an_integer, Kind, any_text, id_digits, signed_64, from_to, SpellsArguments, NoFront, IsHeader, IsArgument}
+use Rattle.definitions.specs.Calls.{mode_number, Argument, a_text, an_integer, Kind, any_text, id_digits, from_to, start_kinds, end_kinds, SpellsArguments, NoFront, IsHeader, IsArgument}
 use Rattle.view_rules.specs.Answers.{Scope, of_all, of_hostname, of_session, of_cwd, ScopedQuery}
 use Rattle.step_rules.specs.Calls.{most_listed, Call, start_call, end_call, delete_call, search_call, kv_set_call, kv_get_call, kv_list_call, alias_set_call, alias_delete_call, alias_list_call, status_call}
 
@@ -25,14 +25,6 @@ number_of status_call = 11
 -- hits, keys or aliases that are asked for
 abbrev pub limit_kind : Kind
 limit_kind = from_to 1 most_listed
-
--- command, working directory, session and host name
-abbrev pub start_kinds : List Kind
-start_kinds = any_text ∷ any_text ∷ any_text ∷ any_text ∷ []
-
--- the id, the duration in nanoseconds and the exit status
-abbrev pub end_kinds : List Kind
-end_kinds = id_digits ∷ signed_64 ∷ signed_64 ∷ []
 
 abbrev pub delete_kinds : List Kind
 delete_kinds = id_digits ∷ []

@@ -5,8 +5,9 @@ use Rattle.std.specs.List.{list_any}
 use Rattle.std.proofs.lemmas.Option.{none-some, same_Some}
 use Rattle.std.proofs.lemmas.Bool.{true≢false, ltb-false, eqb-false, eqb-true}
 use Rattle.payload_rules.specs.Payloads.{Payload, HistoryCreate, HistoryDelete, KvSet, AliasSet, AliasDelete, tag_of, payload_version}
+use Rattle.definitions.specs.Journal.{StartedRecord}
 use Rattle.record_rules.specs.Limits.{most_tag_bytes, most_page_weight}
-use Rattle.record_rules.specs.Records.{SealedRecord, StartedEntry, Entry, Event, Started, Local, Taken, record_weight, event_weight}
+use Rattle.record_rules.specs.Records.{SealedRecord, Entry, Event, Started, Local, Taken, record_weight, event_weight}
 use Rattle.record_rules.specs.Journal.{running, still_running, closes_id, is_running, events_of, chain, fits, StartedFits, EventFits, Sound, MayFollow}
 use Rattle.record_rules.proofs.Options.{cond_none}
 use Rattle.record_rules.proofs.Members.{Has, find_has}
@@ -34,12 +35,12 @@ started_fits id now command cwd session hostname short =
 
 -- ---- what runs
 
-here_or_rest : (t s : StartedEntry) (later : List Event) → (Has (still_running later) s → Has later (Started s)) → (t ≡ s) ⊎ Has (still_running later) s → (Started t ≡ Started s) ⊎ Has later (Started s)
+here_or_rest : (t s : StartedRecord) (later : List Event) → (Has (still_running later) s → Has later (Started s)) → (t ≡ s) ⊎ Has (still_running later) s → (Started t ≡ Started s) ⊎ Has later (Started s)
 here_or_rest t s later rest (inl here) = inl (ap Started here)
 here_or_rest t s later rest (inr has) = inr (rest has)
 
 -- what runs was started
-was_started : (events : List Event) (s : StartedEntry) → Has (still_running events) s → Has events (Started s)
+was_started : (events : List Event) (s : StartedRecord) → Has (still_running events) s → Has events (Started s)
 was_started [] s has = absurd has
 was_started (Started t ∷ later) s has =
     let rest = was_started later s in
@@ -50,12 +51,12 @@ was_started (Started t ∷ later) s has =
 was_started (Local closes r ∷ later) s has = inr (was_started later s has)
 was_started (Taken owner r ∷ later) s has = inr (was_started later s has)
 
-running_fits : (journal : List Entry) (host id : ℕ) (s : StartedEntry) → Sound journal host → running_with id journal ≡ Some s → StartedFits s
+running_fits : (journal : List Entry) (host id : ℕ) (s : StartedRecord) → Sound journal host → running_with id journal ≡ Some s → StartedFits s
 running_fits journal host id s sound found =
-    of_each EventFits (events_of journal) (Started s) sound.events_fit (was_started (events_of journal) s (find_has (λ (t : StartedEntry). t.id == id) (running journal) s found).1)
+    of_each EventFits (events_of journal) (Started s) sound.events_fit (was_started (events_of journal) s (find_has (λ (t : StartedRecord). t.id == id) (running journal) s found).1)
 
-closes_what_runs : (journal : List Entry) (id : ℕ) (s : StartedEntry) → running_with id journal ≡ Some s → is_running id (events_of journal) ≡ true
-closes_what_runs journal id s found = some_passes (λ (t : StartedEntry). t.id == id) (running journal) s found
+closes_what_runs : (journal : List Entry) (id : ℕ) (s : StartedRecord) → running_with id journal ≡ Some s → is_running id (events_of journal) ≡ true
+closes_what_runs journal id s found = some_passes (λ (t : StartedRecord). t.id == id) (running journal) s found
 
 -- ---- the drafts of a call
 
@@ -95,7 +96,7 @@ id_of_start (Started s) = s.id
 id_of_start (Local closes r) = 0
 id_of_start (Taken owner r) = 0
 
-start_follows : (journal : List Entry) (host : ℕ) (new : StartedEntry) → StartedFits new → list_any (starts_id new.id) (events_of journal) ≡ false → fits journal 0 (event_weight (Started new)) None ≡ None → MayFollow journal host (Started new)
+start_follows : (journal : List Entry) (host : ℕ) (new : StartedRecord) → StartedFits new → list_any (starts_id new.id) (events_of journal) ≡ false → fits journal 0 (event_weight (Started new)) None ≡ None → MayFollow journal host (Started new)
 start_follows journal host new texts apart room = record {
   numbered = tt;
   made_here = tt;

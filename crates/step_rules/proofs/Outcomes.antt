@@ -5,7 +5,8 @@ use Rattle.std.proofs.lemmas.Bool.{cases_Bool, true≢false}
 use Rattle.std.proofs.lemmas.Option.{none-some, same_Some}
 use Rattle.definitions.specs.Step.{Used, used_nothing, read_clock, read_and_drew}
 use Rattle.payload_rules.specs.Payloads.{HistoryCreate, HistoryDelete, KvSet, AliasSet, AliasDelete}
-use Rattle.record_rules.specs.Records.{StartedEntry, Caller, Entry}
+use Rattle.definitions.specs.Journal.{StartedRecord}
+use Rattle.record_rules.specs.Records.{Caller, Entry}
 use Rattle.record_rules.specs.Journal.{PassedLimit}
 use Rattle.step_rules.specs.Calls.{Call, start_call, end_call, delete_call, search_call, kv_set_call, kv_get_call, kv_list_call, alias_set_call, alias_delete_call, alias_list_call, status_call, is_read, LongText, long_text}
 use Rattle.step_rules.specs.Answers.{Refusal, too_long, unknown_id, unknown_name, full, id_taken, Answer, refused}
@@ -19,7 +20,7 @@ data Want : Type 0 where
   misses : Refusal → Want
   adds : Draft → Want
 
-abbrev want_of_end : (id : ℕ) (duration exit : ℤ) → Option StartedEntry → Want
+abbrev want_of_end : (id : ℕ) (duration exit : ℤ) → Option StartedRecord → Want
 want_of_end id duration exit None = misses (unknown_id id)
 want_of_end id duration exit (Some s) = adds (record_draft (Some id) (HistoryCreate (created s duration exit)))
 
@@ -224,7 +225,7 @@ module _ (store : KeyedStore) (journal : List Entry) (caller : Caller) (call : C
     draft_happens draft drafts = by_length draft (long_text call) drafts refl
 
 module _ (store : KeyedStore) (journal : List Entry) (caller : Caller) (now : ℕ) (ten all : List ℕ) (ten_are : length ten ≡ 10) (all_are : length all ≡ 106) (views : ViewsAnswer store journal) where
-  end_happens : (id : ℕ) (duration exit : ℤ) (found : Option StartedEntry) → running_with id journal ≡ found → Happens store journal caller (end_call id duration exit)
+  end_happens : (id : ℕ) (duration exit : ℤ) (found : Option StartedRecord) → running_with id journal ≡ found → Happens store journal caller (end_call id duration exit)
   end_happens id duration exit None none = unknown_happens store journal caller (end_call id duration exit) now ten all ten_are all_are (unknown_id id) (end_unknown id duration exit refl none refl)
   end_happens id duration exit (Some s) found = draft_happens store journal caller (end_call id duration exit) now ten all ten_are all_are (record_draft (Some id) (HistoryCreate (created s duration exit))) (end_drafts id duration exit s refl found refl)
 

@@ -1,10 +1,10 @@
 -- Worked examples: steps and turns of a small journal, with the numbers written out.
 use Rattle.std.specs.Prelude.{◌≡◌, ℕ, ◌-◌, ◌^◌, pos, List, [], ◌∷◌, length, take, drop, codes, Some, None}
 use Rattle.definitions.specs.Ids.{made_id}
-use Rattle.definitions.specs.Journal.{HistoryRecord}
+use Rattle.definitions.specs.Journal.{StartedRecord, HistoryRecord}
 use Rattle.definitions.specs.Step.{used_nothing, read_clock, read_and_drew, read_and_failed}
 use Rattle.payload_rules.specs.Payloads.{HistoryCreate, KvSet, history_tag}
-use Rattle.record_rules.specs.Records.{SealedRecord, StartedEntry, Caller, Entry, Started, Local, Taken}
+use Rattle.record_rules.specs.Records.{SealedRecord, Caller, Entry, Started, Local, Taken}
 use Rattle.record_rules.specs.Journal.{fits}
 use Rattle.step_rules.specs.Calls.{Call, start_call, end_call, kv_set_call, kv_get_call, alias_set_call, alias_delete_call, status_call, long_text}
 use Rattle.step_rules.specs.Answers.{too_long, unknown_id, unknown_name, full, random_fault, id_taken, disk_fault, began, stored, value_is, places, refused}
@@ -35,7 +35,7 @@ call_of number = record { number = 1; call = number; settled_for = 0 }
 abbrev pub ls_call : Call
 ls_call = start_call (codes "ls") (codes "/") (codes "s1") (codes "h:u")
 
-abbrev pub ls : StartedEntry
+abbrev pub ls : StartedRecord
 ls = record { id = first_id; timestamp = first_time; command = codes "ls"; cwd = codes "/"; session = codes "s1"; hostname = codes "h:u" }
 
 abbrev pub ls_entry : Entry

@@ -2,11 +2,11 @@
 use Rattle.std.specs.Prelude.{◌≡◌, ℕ, ◌+◌, ℤ, List, [], ◌∷◌, ◌++◌, length, take, drop, find, map, Option, Some, None, Bool, true, false, ◌==◌}
 use Rattle.std.specs.List.{list_any}
 use Rattle.definitions.specs.Ids.{made_id}
-use Rattle.definitions.specs.Journal.{HistoryRecord}
+use Rattle.definitions.specs.Journal.{StartedRecord, HistoryRecord}
 use Rattle.definitions.specs.Step.{Used, used_nothing, read_clock, read_and_drew}
 use Rattle.payload_rules.specs.Payloads.{Payload, HistoryCreate, HistoryDelete, KvSet, AliasSet, AliasDelete, tag_of, payload_version}
 use Rattle.record_rules.specs.Limits.{fixed_weight}
-use Rattle.record_rules.specs.Records.{StartedEntry, Caller, Entry, Event, Started, Local, Taken}
+use Rattle.record_rules.specs.Records.{Caller, Entry, Event, Started, Local, Taken}
 use Rattle.record_rules.specs.Journal.{ChainPlace, PassedLimit, chain, status, fits, running, events_of, records_of}
 use Rattle.view_rules.specs.Views.{viewed, ShowsKv}
 use Rattle.view_rules.specs.Answers.{ScopedQuery, SearchAnswer, Named, KvListAnswer, AliasListAnswer}
@@ -22,18 +22,18 @@ pub data Draft : Type 0 where
   record_draft : (closes : Option ℕ) → Payload → Draft
 
 -- the running command with this id
-abbrev pub running_with : ℕ → List Entry → Option StartedEntry
+abbrev pub running_with : ℕ → List Entry → Option StartedRecord
 running_with id journal = find (λ s. s.id == id) (running journal)
 
 -- what is kept of a command when it ends
-abbrev pub created : StartedEntry → ℤ → ℤ → HistoryRecord
+abbrev pub created : StartedRecord → ℤ → ℤ → HistoryRecord
 created s duration exit =
     record { id = s.id; timestamp = s.timestamp; duration = duration; exit = exit; command = s.command; cwd = s.cwd; session = s.session; hostname = s.hostname; deleted_at = None }
 
 pub data Drafts (store : KeyedStore) (journal : List Entry) (call : Call) (draft : Draft) : Type 0 where
   start_drafts : (command cwd session hostname : List ℕ) → call ≡ start_call command cwd session hostname → draft ≡ start_draft command cwd session hostname → Drafts store journal call draft
   -- an End closes a running command, and keeps what its start told
-  end_drafts : (id : ℕ) (duration exit : ℤ) (s : StartedEntry) → call ≡ end_call id duration exit → running_with id journal ≡ Some s
+  end_drafts : (id : ℕ) (duration exit : ℤ) (s : StartedRecord) → call ≡ end_call id duration exit → running_with id journal ≡ Some s
       → draft ≡ record_draft (Some id) (HistoryCreate (created s duration exit)) → Drafts store journal call draft
   -- only a command that is shown is deleted
   delete_drafts : (id : ℕ) → call ≡ delete_call id → HasCommand store journal id → draft ≡ record_draft None (HistoryDelete id) → Drafts store journal call draft

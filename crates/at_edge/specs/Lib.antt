@@ -9,4 +9,4 @@ pub mod Linking
 pub mod Planned
 pub mod MemoryForms
 pub mod MemoryViews
-pub mod ClockViews
+pub mod StdViews

@@ -6,9 +6,11 @@
 //!
 //! Promise: each form here, in memory or over the real thing, meets its trait. Bytes are given once and in order, a
 //! write counts what it took, a failure comes only where the object's count of faults rose in that call, and no count
-//! falls. What a real file, clock or random source does is trusted: the forms over them tell no content.
+//! falls. What a real file, clock or random source does is trusted: the forms over them tell no content, but hand on what
+//! std's reader and writer, and the generator, tell of themselves.
 //!
-//! It stands on std alone.
+//! It stands on std, and on `rand_core` for what a generator is: std's own source of random bytes promises nothing, so
+//! that a draw which was never made could not be told from one that was.
 #![tactic(auto)]
 
 mod absent;

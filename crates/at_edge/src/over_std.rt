@@ -1,12 +1,13 @@
-// The forms over the real thing. They tell no content, only how often they failed.
-ghost use Rattle.std.specs.Prelude.{◌≡◌, IfOk, [], ◌∷◌, None};
-ghost use Rattle.at_edge.specs.Telling.{Told};
+// The forms over the real thing. They tell no content, only how often they failed; but what std's reader, writer and
+// generator tell, they hand on.
+ghost use Rattle.std.specs.Prelude.{◌≡◌, ◌<◌, length, IfOk, OnOk, [], ◌∷◌};
+ghost use Rattle.at_edge.specs.StdViews.{CountsWithin, WritesOn};
 
 use crate::faults::count_fault;
 use crate::{Clock, Entropy, Got, RandFault, Sink, Source, Took};
+use rand_core::TryRng;
 use std::alloc::{AllocError, Global};
 use std::io::{BufReader, Read, Write};
-use std::random::RandomSource;
 use std::time::Clock as MachineClock;
 
 /// How many bytes one read of std may fetch ahead.
@@ -21,9 +22,12 @@ pub struct ReadSource<R> {
 }
 
 impl<R: Read + Drop> ReadSource<R> {
+    ghost use Rattle.at_edge.specs.StdViews.{reader_seen, still_to_read};
+
     /// A source over this reader. Where there is no memory for the bytes read ahead, the reader is dropped.
     pub fn new(alloc: Global, reader: R) -> Result<Self, AllocError>
-        ensures { IfOk result (λ s. (⟦<ReadSource<R> as Source>⟧.source s).faults ≡ 0) }
+        ensures faults { IfOk result (λ s. (reader_seen s).faults ≡ 0) }
+        ensures over { IfOk result (λ s. still_to_read R.remaining s ≡ R.remaining reader) }
     {
         match BufReader::with_capacity(alloc, READ_AHEAD, reader) {
             Ok(reader) => Ok(ReadSource { reader, faults: 0 }),
@@ -33,9 +37,16 @@ impl<R: Read + Drop> ReadSource<R> {
 }
 
 impl<R: Read> Source for ReadSource<R> {
-    ghost source = { λ s. record { left = None; gave = None; beside = ([], 0); faults = s.faults } };
+    ghost use Rattle.at_edge.specs.Taking.{Reads};
+    ghost use Rattle.at_edge.specs.StdViews.{reader_seen, still_to_read, ReadsOn};
 
-    fn read(&mut self, into: &mut [u8]) -> Got {
+    ghost source = { reader_seen };
+
+    fn read(&mut self, into: &mut [u8]) -> Got
+        requires { 0 < length into.old }
+        ensures reads { Reads (reader_seen self.old) (reader_seen self.new) result into.new }
+        ensures reads_on { ReadsOn (still_to_read R.remaining self.old) (still_to_read R.remaining self.new) result into.new }
+    {
         match self.reader.read(into) {
             Ok(0) => Got::End,
             Ok(count) => Got::Bytes(count),
@@ -56,49 +67,84 @@ pub struct WriteSink<W> {
 }
 
 impl<W: Write> WriteSink<W> {
+    ghost use Rattle.at_edge.specs.StdViews.{writer_seen, written_over};
+
     /// A sink over this writer.
     pub fn new(writer: W) -> Self
-        ensures { (⟦<WriteSink<W> as Sink>⟧.sink result).faults ≡ 0 }
+        ensures faults { (writer_seen result).faults ≡ 0 }
+        ensures over { written_over W.contents result ≡ W.contents writer }
     {
         WriteSink { writer, faults: 0 }
     }
 }
 
 impl<W: Write> Sink for WriteSink<W> {
-    ghost sink = { λ s. record { held = None; beside = ([], 0); faults = s.faults } };
+    ghost use Rattle.at_edge.specs.Writing.{Writes};
+    ghost use Rattle.at_edge.specs.StdViews.{writer_seen, written_over};
 
-    fn write(&mut self, from: &[u8]) -> Took {
-        if let Ok(count) = self.writer.write(from) {
-            if count > 0 && self.writer.flush().is_ok() {
-                return Took::Bytes(count);
-            }
+    ghost sink = { writer_seen };
+
+    fn write(&mut self, from: &[u8]) -> Took
+        requires { 0 < length from.now }
+        ensures writes { Writes (writer_seen self.old) (writer_seen self.new) result from.now }
+        ensures writes_on { WritesOn (written_over W.contents self.old) (written_over W.contents self.new) result from.now }
+    {
+        let took = hand_on(&mut self.writer, from);
+        if let Took::Failed = took {
+            count_fault(&mut self.faults);
         }
-        count_fault(&mut self.faults);
-        Took::Failed
+        took
     }
 }
 
-/// The system's random bytes.
+/// Writes once, and hands on what the writer took. Where it takes nothing, fails, or can't hand on, that is `Failed`.
+fn hand_on<W: Write>(writer: &mut W, from: &[u8]) -> Took
+    ensures counts { CountsWithin result from.now }
+    ensures writes_on { WritesOn (W.contents writer.old) (W.contents writer.new) result from.now }
+{
+    let Ok(count) = writer.write(from) else {
+        return Took::Failed;
+    };
+    if count == 0 || writer.flush().is_err() {
+        return Took::Failed;
+    }
+    Took::Bytes(count)
+}
+
+/// Random bytes of a generator that may fail, as the system's is. A draw is one call of it.
 #[derive(Drop)]
 pub struct SystemEntropy<R> {
-    system: R,
+    generator: R,
     faults: u64,
 }
 
-impl<R: RandomSource> SystemEntropy<R> {
-    /// An entropy over this runtime.
-    pub fn new(system: R) -> Self
-        ensures { (⟦<SystemEntropy<R> as Entropy>⟧.entropy result).faults ≡ 0 }
+impl<R: TryRng> SystemEntropy<R> {
+    ghost use Rattle.at_edge.specs.StdViews.{generator_seen, generator_of};
+
+    /// An entropy over this generator.
+    pub fn new(generator: R) -> Self
+        ensures faults { (generator_seen result).faults ≡ 0 }
+        ensures over { generator_of result ≡ generator }
     {
-        SystemEntropy { system, faults: 0 }
+        SystemEntropy {
+            generator,
+            faults: 0,
+        }
     }
 }
 
-impl<R: RandomSource> Entropy for SystemEntropy<R> {
-    ghost entropy = { λ e. record { coming = None; faults = e.faults } };
+impl<R: TryRng> Entropy for SystemEntropy<R> {
+    ghost use Rattle.at_edge.specs.Drawing.{Draws};
+    ghost use Rattle.at_edge.specs.StdViews.{generator_seen, generator_of};
 
-    fn draw(&mut self, into: &mut [u8]) -> Result<(), RandFault> {
-        if self.system.fill_bytes(into).is_ok() {
+    ghost entropy = { generator_seen };
+
+    /// At Ok the slice holds what the generator may have filled it with.
+    fn draw(&mut self, into: &mut [u8]) -> Result<(), RandFault>
+        ensures draws { Draws (generator_seen self.old) (generator_seen self.new) result into.new }
+        ensures filled { OnOk result (R.may_fill (generator_of self.old) into.new (generator_of self.new)) }
+    {
+        if self.generator.try_fill_bytes(into).is_ok() {
             return Ok(());
         }
         count_fault(&mut self.faults);
@@ -116,7 +162,7 @@ pub struct SystemClock<R> {
 }
 
 impl<R: MachineClock> SystemClock<R> {
-    ghost use Rattle.at_edge.specs.ClockViews.{last_reading, clock_seen};
+    ghost use Rattle.at_edge.specs.StdViews.{last_reading, clock_seen};
 
     /// A clock over this runtime.
     pub fn new(machine: R) -> Self
@@ -137,7 +183,8 @@ impl<R: MachineClock> SystemClock<R> {
 }
 
 impl<R: MachineClock> Clock for SystemClock<R> {
-    ghost use Rattle.at_edge.specs.ClockViews.{clock_seen, Remembers};
+    ghost use Rattle.at_edge.specs.Telling.{Told};
+    ghost use Rattle.at_edge.specs.StdViews.{clock_seen, Remembers};
 
     ghost clock = { clock_seen };
 

@@ -17,6 +17,7 @@ pub use top::{Ended, run_once};
 mod tests;
 
 use at_edge::{AbsentDisk, AbsentLink, ReadSource, SystemClock, SystemEntropy, WriteSink};
+use rand::rngs::SysRng;
 use std::process::ExitCode;
 use std::{env, io};
 
@@ -39,7 +40,7 @@ fn main(rt: HostRuntime) -> ExitCode {
         return ExitCode::from(NO_MEMORY);
     };
     let mut sink = WriteSink::new(io::writer(&rt));
-    let mut rand = SystemEntropy::new(&rt);
+    let mut rand = SystemEntropy::new(SysRng::new(&rt));
     let mut clock = SystemClock::new(&rt);
     let mut link = AbsentLink::new();
     let ended = run_once(

@@ -6,7 +6,7 @@ use Rattle.std.proofs.lemmas.List.{length-append, map-append}
 use Rattle.std.proofs.lemmas.List.Elements.{All-push, All-nil}
 use Rattle.definitions.specs.Frames.{frame, frames, most_payload_bytes}
 use Rattle.definitions.specs.Journal.{JournalEntry}
-use Rattle.definitions.specs.Replies.{PlainReply, reply_bytes}
+use Rattle.definitions.specs.Replies.{PlainReply, plain_reply_bytes}
 use Rattle.definitions.specs.Step.{Used, UsedFits, used_nothing, then_used}
 use Rattle.definitions.specs.Runs.{Run}
 use Rattle.definitions.proofs.Runs.{Run-nothing, Run-more, UsedFits-nothing, UsedFits-then}
@@ -51,7 +51,7 @@ pub record Serves (requests at : ℕ) (source_old source_new : SourceSeen) (sink
   pub written : Holds sink_old sink_new (reply_frames replied.replies)
 
 replies-more : (replies : List PlainReply) (reply : PlainReply) → reply_frames (replies ++ reply ∷ []) ≡ reply_frames replies ++ reply_frame reply
-replies-more replies reply = ap frames (map-append reply_bytes replies (reply ∷ [])) ∙ frames-more (map reply_bytes replies) (reply_bytes reply)
+replies-more replies reply = ap frames (map-append plain_reply_bytes replies (reply ∷ [])) ∙ frames-more (map plain_reply_bytes replies) (plain_reply_bytes reply)
 
 module _ (source_old : SourceSeen) (sink_old : SinkSeen) (rand_old : EntropySeen) (clock_old : ClockSeen) where
   replied_nothing : Replied 0 0 source_old source_old rand_old rand_old clock_old clock_old []

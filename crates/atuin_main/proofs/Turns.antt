@@ -3,7 +3,7 @@ use Rattle.std.proofs.Common.{◌≡◌, ℕ, ◌-◌, List, [], ◌∷◌, ◌+
 use Rattle.std.specs.Int.{w32, to_be_bytes}
 use Rattle.definitions.specs.Frames.{frame}
 use Rattle.definitions.specs.Journal.{JournalEntry}
-use Rattle.definitions.specs.Replies.{reply_bytes}
+use Rattle.definitions.specs.Replies.{plain_reply_bytes}
 use Rattle.at_edge.specs.Drawing.{EntropySeen}
 use Rattle.at_edge.specs.Telling.{ClockSeen}
 use Rattle.daemon_core.specs.Answering.{AnswersPlain}
@@ -24,7 +24,7 @@ pub answers_frame : (rand_old rand_new : EntropySeen) (clock_old clock_new : Clo
     → AnswersPlain rand_old rand_new clock_old clock_new old new payload before after → before ≡ four_zeros → n ≡ length after - 4 → written ≡ to_be_bytes w32 n ++ drop 4 after
     → AnswersFrame rand_old rand_new clock_old clock_new old new payload written
 answers_frame rand_old rand_new clock_old clock_new old new payload before after written n answer zeros counted over = (
-  reply_bytes answer.reply,
+  plain_reply_bytes answer.reply,
   record {
     used = answer.used;
     reply = answer.reply;
@@ -35,5 +35,5 @@ answers_frame rand_old rand_new clock_old clock_new old new payload before after
     told = answer.told;
     written = refl;
   },
-  frame_is (reply_bytes answer.reply) before after written n zeros answer.written counted over,
+  frame_is (plain_reply_bytes answer.reply) before after written n zeros answer.written counted over,
 )

@@ -4,7 +4,7 @@ use Rattle.std.specs.List.{All}
 use Rattle.std.specs.Io.KnownBytes.{IsAtEnd}
 use Rattle.definitions.specs.Frames.{frame, frames, most_payload_bytes, named_length, CutFrame, LongFrame}
 use Rattle.definitions.specs.Journal.{JournalEntry}
-use Rattle.definitions.specs.Replies.{PlainReply, reply_bytes}
+use Rattle.definitions.specs.Replies.{PlainReply, plain_reply_bytes}
 use Rattle.definitions.specs.Step.{Used, UsedFits}
 use Rattle.definitions.specs.Runs.{Run}
 use Rattle.at_edge.specs.Counts.{Rose, RoseBy}
@@ -22,10 +22,10 @@ most_requests = 1000000
 
 -- the bytes of replies, a frame each
 abbrev pub reply_frame : PlainReply → List ℕ
-reply_frame reply = frame (reply_bytes reply)
+reply_frame reply = frame (plain_reply_bytes reply)
 
 abbrev pub reply_frames : List PlainReply → List ℕ
-reply_frames replies = frames (map reply_bytes replies)
+reply_frames replies = frames (map plain_reply_bytes replies)
 
 -- the payloads' frames and then this part were taken, and the replies' frames were written
 pub record Stands (payloads : List (List ℕ)) (replies : List PlainReply) (source_old source_new : SourceSeen) (sink_old sink_new : SinkSeen) (part : List ℕ) : Type 0 where

@@ -5,17 +5,17 @@ use Rattle.at_edge.specs.Telling.{ClockSeen}
 use Rattle.at_edge.proofs.EntropyLaws.{Drew-nothing}
 use Rattle.at_edge.proofs.ClockLaws.{Told-nothing}
 use Rattle.at_edge.proofs.CountLaws.{RoseBy-nothing}
-use Rattle.definitions.specs.Spelling.{IsBytes, SpellsText, TextForm, fixstr, str_8, str_16, str_32, text_limit}
-use Rattle.definitions.specs.Calls.{Kind, PlainCall, SearchQuery, SpellsCall, SpellsArguments, WrongAt, start_kinds, arguments, search_call}
+use Rattle.definitions.specs.Spelling.{IsBytes, TextFits, SpellsText, TextForm, fixstr, str_8, str_16, str_32, text_limit}
+use Rattle.definitions.specs.Calls.{Kind, PlainCall, SearchQuery, SpellsCall, SpellsArguments, WrongAt, plain_kinds, start_kinds, arguments, search_call}
 use Rattle.definitions.specs.Reading.{call_at}
 use Rattle.definitions.specs.Journal.{JournalEntry}
-use Rattle.definitions.specs.Replies.{PlainReply, answer_bytes, reply_bytes, no_memory, bad_request}
+use Rattle.definitions.specs.Replies.{PlainReply, plain_answer_bytes, plain_reply_bytes, no_memory, bad_request}
 use Rattle.definitions.proofs.Runs.{UsedFits-nothing}
-use Rattle.definitions.specs.Step.{Step, used_nothing, read_clock, answered_at, unread}
-use Rattle.definitions.proofs.Calls.{wrong_found}
+use Rattle.definitions.specs.Step.{PlainStep, used_nothing, read_clock, answered_at, unread}
+use Rattle.definitions.proofs.Numbered.{wrong_found}
 use Rattle.daemon_core.specs.declared.reading.Request.{Request}
 use Rattle.daemon_core.specs.declared.reading.Request.TheVariants as request
-use Rattle.daemon_core.specs.Requests.{IsText, AreTexts, HasTexts, start_asked, asked}
+use Rattle.daemon_core.specs.Requests.{AreTexts, HasTexts, start_asked, asked}
 use Rattle.daemon_core.specs.declared.reading.StartParts.{StartParts}
 use Rattle.daemon_core.specs.Answering.{AnswersPlain, Starts, Ends, WritesOr}
 use Rattle.daemon_core.proofs.Steps.{read_one, search_refused}
@@ -28,22 +28,22 @@ widest_text str_8 = omega arith
 widest_text str_16 = omega arith
 widest_text str_32 = omega arith
 
-is_text : (text bytes : List ℕ) → SpellsText text bytes → IsText text
-is_text text bytes s = let most : text_limit s.form ≤ 2 ^ 32 = widest_text s.form in let fits : length text < text_limit s.form = s.fits in (s.utf8, omega arith)
+text_fits : (text bytes : List ℕ) → SpellsText text bytes → TextFits text
+text_fits text bytes s = let most : text_limit s.form ≤ 2 ^ 32 = widest_text s.form in let fits : length text < text_limit s.form = s.fits in record { utf8 = s.utf8; short = omega arith }
 
 texts_in : (p : StartParts) (all : List Kind) (rest : List ℕ) → Some start_kinds ≡ Some all → SpellsArguments all (arguments (start_asked p)) rest → AreTexts p
 texts_in p all rest e spelled =
     let same : start_kinds ≡ all = cc in
     let a : SpellsArguments start_kinds (arguments (start_asked p)) rest = subst (λ (kinds : List Kind). SpellsArguments kinds (arguments (start_asked p)) rest) (sym same) spelled in
     record {
-      command = is_text p.command.now a.0 a.3;
-      cwd = is_text p.cwd.now a.4.0 a.4.3;
-      session = is_text p.session.now a.4.4.0 a.4.4.3;
-      hostname = is_text p.hostname.now a.4.4.4.0 a.4.4.4.3;
+      command = text_fits p.command.now a.0 a.3;
+      cwd = text_fits p.cwd.now a.4.0 a.4.3;
+      session = text_fits p.session.now a.4.4.0 a.4.4.3;
+      hostname = text_fits p.hostname.now a.4.4.4.0 a.4.4.4.3;
     }
 
 texts_spelled : (p : StartParts) (payload : List ℕ) → SpellsCall (start_asked p) payload → AreTexts p
-texts_spelled p payload s = texts_in p s.all_kinds s.rest s.kinds_are s.are_arguments
+texts_spelled p payload s = let numbered = s.numbered in texts_in p numbered.all_kinds numbered.rest numbered.kinds_are numbered.are_arguments
 
 pub request_texts : (request : Request) (payload : List ℕ) → SpellsCall (asked request) payload → HasTexts request
 request_texts (request.Start p) payload s = texts_spelled p payload s
@@ -57,7 +57,7 @@ spelled_as payload request same is spelled = subst (λ (r : Request). SpellsCall
 
 module _ (rand rand_new : EntropySeen) (clock clock_new : ClockSeen) (old new : List JournalEntry) (payload before after : List ℕ) where
   pub answers_start : (call : PlainCall) (reply : PlainReply) → Starts rand rand_new clock clock_new old new call reply → SpellsCall call payload
-      → after ≡ before ++ reply_bytes reply → AnswersPlain rand rand_new clock clock_new old new payload before after
+      → after ≡ before ++ plain_reply_bytes reply → AnswersPlain rand rand_new clock clock_new old new payload before after
   answers_start call reply s spelled written = record {
     used = s.used;
     reply = reply;
@@ -70,7 +70,7 @@ module _ (rand rand_new : EntropySeen) (clock clock_new : ClockSeen) (old new : 
   }
 
   pub answers_end : (call : PlainCall) (reply : PlainReply) → Ends clock clock_new old new call reply → SpellsCall call payload
-      → after ≡ before ++ reply_bytes reply → AnswersPlain rand rand clock clock_new old new payload before after
+      → after ≡ before ++ plain_reply_bytes reply → AnswersPlain rand rand clock clock_new old new payload before after
   answers_end call reply e spelled written = record {
     used = read_clock e.now;
     reply = reply;
@@ -82,7 +82,7 @@ module _ (rand rand_new : EntropySeen) (clock clock_new : ClockSeen) (old new : 
     written = written;
   }
 
-  answers_nothing : (reply : PlainReply) → Step old payload used_nothing reply old → after ≡ before ++ reply_bytes reply
+  answers_nothing : (reply : PlainReply) → PlainStep old payload used_nothing reply old → after ≡ before ++ plain_reply_bytes reply
       → AnswersPlain rand rand clock clock old old payload before after
   answers_nothing reply step written = record {
     used = used_nothing;
@@ -96,18 +96,18 @@ module _ (rand rand_new : EntropySeen) (clock clock_new : ClockSeen) (old new : 
   }
 
   pub answers_search : (query : SearchQuery) (reply : PlainReply)
-      → ((bytes : List ℕ) → SpellsCall (search_call query) bytes → Step old bytes used_nothing reply old) → reply.front ≡ length old
+      → ((bytes : List ℕ) → SpellsCall (search_call query) bytes → PlainStep old bytes used_nothing reply old) → reply.front ≡ length old
       → SpellsCall (search_call query) payload → WritesOr reply before after → AnswersPlain rand rand clock clock old old payload before after
   answers_search query reply step front spelled (inl written) = answers_nothing reply (step payload spelled) written
   answers_search query reply step front spelled (inr refused) =
       answers_nothing (answered_at old no_memory) (search_refused old query (answered_at old no_memory) refl payload spelled)
-      (refused ∙ ap (λ (n : ℕ). before ++ answer_bytes n no_memory) front)
+      (refused ∙ ap (λ (n : ℕ). before ++ plain_answer_bytes n no_memory) front)
 
-  pub answers_wrong : (place left front : ℕ) → IsBytes payload → call_at payload ≡ Err left → place + left ≡ length payload → front ≡ length old
-      → after ≡ before ++ answer_bytes front (bad_request place) → AnswersPlain rand rand clock clock old old payload before after
+  pub answers_wrong : (place left front : ℕ) → IsBytes payload → call_at plain_kinds payload ≡ Err left → place + left ≡ length payload → front ≡ length old
+      → after ≡ before ++ plain_answer_bytes front (bad_request place) → AnswersPlain rand rand clock clock old old payload before after
   answers_wrong place left front are read at is_front written =
-      let wrong = wrong_found payload left are read in
+      let wrong = wrong_found plain_kinds payload left are read in
       let same : length payload - left ≡ place = omega arith in
       answers_nothing (answered_at old (bad_request place))
-      (unread place (subst (WrongAt payload) same wrong.1) refl (record { journal = refl; reply_is = refl }))
-      (written ∙ ap (λ (n : ℕ). before ++ answer_bytes n (bad_request place)) is_front)
+      (unread place (subst (WrongAt plain_kinds payload) same wrong.1) refl (record { journal = refl; reply_is = refl }))
+      (written ∙ ap (λ (n : ℕ). before ++ plain_answer_bytes n (bad_request place)) is_front)

@@ -12,7 +12,7 @@ use Rattle.std.proofs.Math.ListN.{drop_of_length-le}
 use Rattle.std.proofs.Math.Seq.{drop-cons, take-length}
 use Rattle.definitions.specs.Calls.{SearchQuery}
 use Rattle.definitions.specs.Journal.{HistoryRecord, JournalEntry, begun, ended, ended_in}
-use Rattle.definitions.specs.Search.{stands_in, is_shown_before, hit_bytes, most_hit_bytes, FitsPage, IsPage, IsAnswer}
+use Rattle.definitions.specs.Search.{stands_in, is_shown_before, hit_bytes, most_shown_bytes, FitsPage, IsPage, IsAnswer}
 use Rattle.record_model.specs.declared.begun.Started.{Started}
 use Rattle.record_model.specs.declared.ended.History.{History}
 use Rattle.record_model.specs.Seen.{history_seen, histories_seen}
@@ -128,8 +128,8 @@ sum_more hits k d below =
 
 -- the page has room for one more hit
 pub page_goes_on : (limit k bytes more : ℕ) (hits : List (Bor History)) (hit : Bor History) → k < length hits → hit ≡ slice_index_or hits k hit
-    → bytes ≡ sum_by hit_bytes (hits_of (take k hits)) → more ≡ hit_bytes (hit_of hit) → more < 2 ^ 34 → (k < limit) × ((k ≡ 0) ⊎ (bytes + more ≤ most_hit_bytes))
-    → (bytes + more ≡ sum_by hit_bytes (hits_of (take (k + 1) hits))) × FitsPage limit (hits_of (take (k + 1) hits)) × (bytes + more < 2 ^ 35)
+    → bytes ≡ sum_by hit_bytes (hits_of (take k hits)) → more ≡ hit_bytes (hit_of hit) → more < 2 ^ 34 → (k < limit) × ((k ≡ 0) ⊎ (bytes + more ≤ most_shown_bytes))
+    → (bytes + more ≡ sum_by hit_bytes (hits_of (take (k + 1) hits))) × FitsPage hit_bytes limit (hits_of (take (k + 1) hits)) × (bytes + more < 2 ^ 35)
 page_goes_on limit k bytes more hits hit below is total counted small (some, room) =
     let one : more ≡ hit_bytes (hit_of (slice_index_or hits k hit)) = counted ∙ ap (λ (b : Bor History). hit_bytes (hit_of b)) is in
     let sum : bytes + more ≡ sum_by hit_bytes (hits_of (take (k + 1) hits)) = ap₂ (λ (a b : ℕ). a + b) total one ∙ sym (sum_more hits k hit below) in
@@ -141,13 +141,13 @@ page_goes_on limit k bytes more hits hit below is total counted small (some, roo
           let single : length (hits_of (take (k + 1) hits)) ≤ 1 = omega arith in
           let bound : bytes + more < 2 ^ 35 = omega arith in (sum, (within, inl single), bound)
       | inr fits ↦
-          let texts : sum_by hit_bytes (hits_of (take (k + 1) hits)) ≤ most_hit_bytes = omega arith in
+          let texts : sum_by hit_bytes (hits_of (take (k + 1) hits)) ≤ most_shown_bytes = omega arith in
           let bound : bytes + more < 2 ^ 35 = omega arith in (sum, (within, inr texts), bound)
     ]
 
 -- the next hit doesn't fit: there are as many as may be, or its texts are too long
 no_room : (limit : ℕ) (page : List HistoryRecord) (next : HistoryRecord)
-    → (limit ≤ length page) ⊎ ((0 < length page) × (most_hit_bytes < sum_by hit_bytes page + hit_bytes next)) → FitsPage limit (page ++ next ∷ []) → ⊥
+    → (limit ≤ length page) ⊎ ((0 < length page) × (most_shown_bytes < sum_by hit_bytes page + hit_bytes next)) → FitsPage hit_bytes limit (page ++ next ∷ []) → ⊥
 no_room limit page next (inl all) fits =
     let long : length (page ++ next ∷ []) ≡ length page + 1 = length-append page (next ∷ []) in
     let most : length (page ++ next ∷ []) ≤ limit = fits.0 in
@@ -161,14 +161,14 @@ no_room limit page next (inr full) (within, inr texts) =
 
 -- a page is as long as may be where the next hit doesn't fit
 pub page_stops : (limit k bytes more : ℕ) (hits : List (Bor History)) (hit : Bor History) → k < length hits → hit ≡ slice_index_or hits k hit
-    → bytes ≡ sum_by hit_bytes (hits_of (take k hits)) → more ≡ hit_bytes (hit_of hit) → FitsPage limit (hits_of (take k hits))
-    → (limit ≤ k) ⊎ ((0 < k) × (most_hit_bytes < bytes + more)) → IsPage limit (hits_of hits) (hits_of (take k hits))
+    → bytes ≡ sum_by hit_bytes (hits_of (take k hits)) → more ≡ hit_bytes (hit_of hit) → FitsPage hit_bytes limit (hits_of (take k hits))
+    → (limit ≤ k) ⊎ ((0 < k) × (most_shown_bytes < bytes + more)) → IsPage hit_bytes limit (hits_of hits) (hits_of (take k hits))
 page_stops limit k bytes more hits hit below is total counted fits full =
     let long : length (hits_of (take k hits)) ≡ k = count_of hits k (omega arith) in
-    let no_more : (limit ≤ length (hits_of (take k hits))) ⊎ ((0 < length (hits_of (take k hits))) × (most_hit_bytes < sum_by hit_bytes (hits_of (take k hits)) + hit_bytes (hit_of hit))) =
+    let no_more : (limit ≤ length (hits_of (take k hits))) ⊎ ((0 < length (hits_of (take k hits))) × (most_shown_bytes < sum_by hit_bytes (hits_of (take k hits)) + hit_bytes (hit_of hit))) =
     elim full [
       | inl all ↦ inl (omega arith)
-      | inr past ↦ let some : 0 < k = past.0 in let over : most_hit_bytes < bytes + more = past.1 in inr (omega arith, omega arith)
+      | inr past ↦ let some : 0 < k = past.0 in let over : most_shown_bytes < bytes + more = past.1 in inr (omega arith, omega arith)
     ] in
     let cell : drop k hits ≡ slice_index_or hits k hit ∷ drop (suc k) hits = drop-cons hits k hit below in
     record {
@@ -179,15 +179,15 @@ page_stops limit k bytes more hits hit below is total counted fits full =
           let cells : next ∷ others ≡ hit_of (slice_index_or hits k hit) ∷ hits_of (drop (suc k) hits) = sym at ∙ ap hits_of cell in
           let same : next ≡ hit_of (slice_index_or hits k hit) = cc in
           let next_is : next ≡ hit_of hit = same ∙ sym (ap hit_of is) in
-          no_room limit (hits_of (take k hits)) (hit_of hit) no_more (subst (λ (h : HistoryRecord). FitsPage limit (hits_of (take k hits) ++ h ∷ [])) next_is longer);
+          no_room limit (hits_of (take k hits)) (hit_of hit) no_more (subst (λ (h : HistoryRecord). FitsPage hit_bytes limit (hits_of (take k hits) ++ h ∷ [])) next_is longer);
     }
 
 -- all of the hits are a page
-pub page_ends : (limit k : ℕ) (hits : List (Bor History)) → length hits ≤ k → k ≤ length hits → FitsPage limit (hits_of (take k hits)) → IsPage limit (hits_of hits) (hits_of (take (length hits) hits))
+pub page_ends : (limit k : ℕ) (hits : List (Bor History)) → length hits ≤ k → k ≤ length hits → FitsPage hit_bytes limit (hits_of (take k hits)) → IsPage hit_bytes limit (hits_of hits) (hits_of (take (length hits) hits))
 page_ends limit k hits past within fits =
     let same : k ≡ length hits = omega arith in
     let all : take (length hits) hits ≡ hits = take-length hits in
-    let fits_all : FitsPage limit (hits_of (take (length hits) hits)) = subst (λ (n : ℕ). FitsPage limit (hits_of (take n hits))) same fits in
+    let fits_all : FitsPage hit_bytes limit (hits_of (take (length hits) hits)) = subst (λ (n : ℕ). FitsPage hit_bytes limit (hits_of (take n hits))) same fits in
     record {
       rest = [];
       front = ap hits_of (sym all) ∙ sym (append-nil (hits_of (take (length hits) hits)));
@@ -208,7 +208,7 @@ copied_all hits k past =
     let short : drop k hits ≡ [] = drop_past hits k past in
     ap hits_of (sym (append-nil (take k hits)) ∙ ap (λ (l : List (Bor History)). take k hits ++ l) (sym short) ∙ take-append-drop k hits)
 
-pub counted_page : (limit : ℕ) (hits page : List (Bor History)) → IsPage limit (hits_of hits) (hits_of page) → limit < 2 ^ 32 → length page < 2 ^ 32
+pub counted_page : (limit : ℕ) (hits page : List (Bor History)) → IsPage hit_bytes limit (hits_of hits) (hits_of page) → limit < 2 ^ 32 → length page < 2 ^ 32
 counted_page limit hits page shown small =
     let most : length (hits_of page) ≤ limit = shown.fits.0 in
     let long : length (hits_of page) ≡ length page = length-map page hit_of in
@@ -251,18 +251,18 @@ matching_more query entries k e now after below is was put =
 
 pub answers_query : (query : SearchQuery) (entries : List PlainEntry) (found ordered : List (Bor History)) (shown page : List HistoryRecord)
     → hits_of found ≡ matched query entries → IsPermutation (hits_of found) (hits_of ordered) → IsSortedBy is_shown_before (hits_of ordered)
-    → shown ≡ hits_of (drop query.offset ordered) → IsPage query.limit shown page → IsAnswer query (ended_in (entries_seen entries)) page
+    → shown ≡ hits_of (drop query.offset ordered) → IsPage hit_bytes query.limit shown page → IsAnswer query (ended_in (entries_seen entries)) page
 unfolding matched
 answers_query query entries found ordered shown page are moved sorted cut fits = record {
   in_order = hits_of ordered;
   matching = subst (λ (l : List HistoryRecord). IsPermutation l (hits_of ordered)) are moved;
   sorted = sorted;
-  cut = subst (λ (l : List HistoryRecord). IsPage query.limit l page) (cut ∙ sym (drop-map hit_of query.offset ordered)) fits;
+  cut = subst (λ (l : List HistoryRecord). IsPage hit_bytes query.limit l page) (cut ∙ sym (drop-map hit_of query.offset ordered)) fits;
 }
 
 pub answers_copied : (query : SearchQuery) (entries : List PlainEntry) (found ordered shown page : List (Bor History)) (copied : List HistoryRecord)
     → hits_of found ≡ matched query entries → IsPermutation (hits_of found) (hits_of ordered) → IsSortedBy is_shown_before (hits_of ordered)
-    → shown ≡ drop query.offset ordered → IsPage query.limit (hits_of shown) (hits_of page) → copied ≡ hits_of page → IsAnswer query (ended_in (entries_seen entries)) copied
+    → shown ≡ drop query.offset ordered → IsPage hit_bytes query.limit (hits_of shown) (hits_of page) → copied ≡ hits_of page → IsAnswer query (ended_in (entries_seen entries)) copied
 answers_copied query entries found ordered shown page copied are moved sorted cut fits same =
     subst (λ (l : List HistoryRecord). IsAnswer query (ended_in (entries_seen entries)) l) (sym same)
     (answers_query query entries found ordered (hits_of shown) (hits_of page) are moved sorted (ap hits_of cut) fits)

@@ -11,7 +11,7 @@ use Rattle.definitions.specs.Ids.{made_id}
 use Rattle.definitions.specs.Journal.{StartedRecord, HistoryRecord, JournalEntry, begun, ended, begun_in, ended_in, was_begun, has_ended, finished}
 use Rattle.definitions.specs.Replies.{PlainReply, began_id, stored_index, hit_list, unknown_id, random_fault, id_taken, no_memory}
 use Rattle.definitions.specs.Search.{IsAnswer}
-use Rattle.definitions.specs.Step.{Step, Answers, read_and_drew, read_and_failed, read_clock, used_nothing, answered_at, start_failed, start_taken, start_done, start_short, end_unbegun, end_again, end_done, end_short, searched, search_short}
+use Rattle.definitions.specs.Step.{PlainStep, Answers, read_and_drew, read_and_failed, read_clock, used_nothing, answered_at, start_failed, start_taken, start_done, start_short, end_unbegun, end_again, end_done, end_short, searched, search_short}
 use Rattle.daemon_core.specs.Answering.{Starts, Ends, Stores, stored, not_stored, IsCounted}
 
 pub read_one : (now : ℕ) → now < 2 ^ 64 → All (λ (n : ℕ). n < 2 ^ 64) (now ∷ [])
@@ -107,7 +107,7 @@ module _ (clock_old clock_new : ClockSeen) (old new : List JournalEntry) (reply 
     }
 
     end_step : (s : StartedRecord) (h : HistoryRecord) → Contains (begun_in seen) s → s.id ≡ id → h ≡ finished s duration exit → Stores old new h reply
-        → (payload : List ℕ) → SpellsCall (end_call id duration exit) payload → Step old payload (read_clock now) reply new
+        → (payload : List ℕ) → SpellsCall (end_call id duration exit) payload → PlainStep old payload (read_clock now) reply new
     end_step s h runs same is (stored answers) payload spelled =
         end_done id duration exit now s spelled refl (subst (λ (j : List JournalEntry). Contains (begun_in j) s) is_seen runs) same
         (sym (ap (has_ended id) is_later) ∙ not_over)
@@ -134,12 +134,12 @@ stores_not old new h reply kept is = not_stored (record { journal = kept; reply_
 -- ---- a Search
 
 pub search_done : (journal seen : List JournalEntry) (query : SearchQuery) (hits : List HistoryRecord) (reply : PlainReply) → seen ≡ journal → IsAnswer query (ended_in seen) hits
-    → reply ≡ answered_at journal (hit_list hits) → (payload : List ℕ) → SpellsCall (search_call query) payload → Step journal payload used_nothing reply journal
+    → reply ≡ answered_at journal (hit_list hits) → (payload : List ℕ) → SpellsCall (search_call query) payload → PlainStep journal payload used_nothing reply journal
 search_done journal seen query hits reply is_seen answer is payload spelled =
     searched query hits spelled refl (subst (λ (j : List JournalEntry). IsAnswer query (ended_in j) hits) is_seen answer) (record { journal = refl; reply_is = is })
 
 pub search_refused : (journal : List JournalEntry) (query : SearchQuery) (reply : PlainReply) → reply ≡ answered_at journal no_memory
-    → (payload : List ℕ) → SpellsCall (search_call query) payload → Step journal payload used_nothing reply journal
+    → (payload : List ℕ) → SpellsCall (search_call query) payload → PlainStep journal payload used_nothing reply journal
 search_refused journal query reply is payload spelled = search_short query spelled refl (record { journal = refl; reply_is = is })
 
 pub counted_hits : (journal : List JournalEntry) (hits : List HistoryRecord) (reply : PlainReply) → reply ≡ answered_at journal (hit_list hits) → length hits < 2 ^ 32 → IsCounted reply.answer

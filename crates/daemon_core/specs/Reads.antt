@@ -1,6 +1,6 @@
 -- What the parts of a payload's reading give.
 use Rattle.std.specs.Prelude.{◌≡◌, ℕ, ◌+◌, ℤ, pos, List, length, Result, Ok, Err}
-use Rattle.definitions.specs.Calls.{PlainCall, IdFits, Argument, Kind, start_kinds, end_kinds, search_kinds, arguments, call_number}
+use Rattle.definitions.specs.Calls.{PlainCall, IdFits, Argument, Kind, start_kinds, end_kinds, plain_search_kinds, plain_kinds, arguments, call_number}
 use Rattle.definitions.specs.Reading.{call_at}
 use Rattle.msgpack_fields.specs.Reading.{Reading}
 use Rattle.msgpack_fields.specs.declared.reader.Wrong.{Wrong}
@@ -25,8 +25,8 @@ abbrev pub call_parts : PlainCall → ℤ × List Argument
 call_parts call = (pos (call_number call), arguments call)
 
 abbrev pub GivesCall : List ℕ → Result Request Wrong → Type 0
-GivesCall payload (Ok request) = (call_at payload ≡ Ok (call_parts (asked request))) × IdFits (asked request)
-GivesCall payload (Err e) = (left : ℕ) × (call_at payload ≡ Err left) × (e.place + left ≡ length payload)
+GivesCall payload (Ok request) = (call_at plain_kinds payload ≡ Ok (call_parts (asked request))) × IdFits (asked request)
+GivesCall payload (Err e) = (left : ℕ) × (call_at plain_kinds payload ≡ Err left) × (e.place + left ≡ length payload)
 
 -- the number that stands for a call, and the number of items in its array
 abbrev pub number_of : CallName → ℕ
@@ -38,4 +38,4 @@ number_of SearchCall = 4
 abbrev pub kinds_named : CallName → List Kind
 kinds_named StartCall = start_kinds
 kinds_named EndCall = end_kinds
-kinds_named SearchCall = search_kinds
+kinds_named SearchCall = plain_search_kinds

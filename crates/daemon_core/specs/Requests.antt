@@ -1,6 +1,6 @@
 -- What the parts of a request ask.
-use Rattle.std.specs.Prelude.{ℕ, ◌<◌, ◌^◌, List, length}
-use Rattle.std.specs.Str.{IsUtf8}
+use Rattle.std.specs.Prelude.{ℕ}
+use Rattle.definitions.specs.Spelling.{TextFits}
 use Rattle.definitions.specs.Calls.{SearchQuery, PlainCall, start_call, end_call, search_call}
 use Rattle.definitions.specs.Journal.{StartedRecord}
 use Rattle.record_model.specs.Seen.{mode_seen}
@@ -24,15 +24,11 @@ asked (Start p) = start_asked p
 asked (End p) = end_asked p
 asked (Search p) = search_call (query_asked p)
 
--- a part that may become a text
-abbrev pub IsText : List ℕ → Type 0
-IsText text = IsUtf8 text × (length text < 2 ^ 32)
-
 pub record AreTexts (p : StartParts) : Type 0 where
-  pub command : IsText p.command.now
-  pub cwd : IsText p.cwd.now
-  pub session : IsText p.session.now
-  pub hostname : IsText p.hostname.now
+  pub command : TextFits p.command.now
+  pub cwd : TextFits p.cwd.now
+  pub session : TextFits p.session.now
+  pub hostname : TextFits p.hostname.now
 
 -- the command that begins under an id at a time
 abbrev pub started_of : StartParts → ℕ → ℕ → StartedRecord

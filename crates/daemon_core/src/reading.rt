@@ -1,6 +1,6 @@
 // Requests: what a payload asks, in parts that are borrowed from it.
 ghost use Rattle.std.specs.Prelude.{◌≡◌, ℕ, ℤ, pos, ◌+◌, ◌<◌, ◌≤◌, ◌^◌, [], ◌∷◌, length, IfOk};
-ghost use Rattle.definitions.specs.Calls.{a_text, an_integer, any_text, empty_text, id_digits, signed_64, from_to, start_kinds, end_kinds, search_kinds, mode_number, arguments, search_call, kinds};
+ghost use Rattle.definitions.specs.Calls.{a_text, an_integer, any_text, empty_text, id_digits, signed_64, from_to, start_kinds, end_kinds, plain_search_kinds, mode_number, arguments, search_call, plain_kinds};
 ghost use Rattle.definitions.specs.Ids.{id_text};
 ghost use Rattle.definitions.specs.Reading.{integer_at, array_at, item_at, argument_at, last_arguments_at, is_call_length, is_call_number};
 ghost use Rattle.record_model.specs.Seen.{mode_seen};
@@ -97,7 +97,7 @@ fn call_length(reader: &mut Reader<'_>) -> Result<u32, Wrong>
 
 /// The number of a call.
 fn call_name(reader: &mut Reader<'_>) -> Result<CallName, Wrong>
-    ensures { Gives (λ name. pos (number_of name)) reader.old reader.new result (item_at (integer_at reader.old.rest) is_call_number reader.old.rest) }
+    ensures { Gives (λ name. pos (number_of name)) reader.old reader.new result (item_at (integer_at reader.old.rest) (is_call_number plain_kinds) reader.old.rest) }
 {
     let place = reader.place();
     match reader.int()? {
@@ -142,7 +142,7 @@ fn end_parts(reader: &mut Reader<'_>) -> Result<EndParts, Wrong>
 /// The arguments of a Search: its filter is 0 and has no text, and it doesn't ask for unique hits.
 #[tactic(auto, unfolding(definitions::specs::Reading::arguments_at, definitions::specs::Reading::last_arguments_at))]
 fn search_parts<'a>(reader: &mut Reader<'a>) -> Result<SearchParts<'a>, Wrong>
-    ensures { GivesLast (λ p. arguments (search_call (query_asked p))) reader.old result (last_arguments_at search_kinds reader.old.rest) }
+    ensures { GivesLast (λ p. arguments (search_call (query_asked p))) reader.old result (last_arguments_at plain_search_kinds reader.old.rest) }
 {
     let mode = mode(reader)?;
     zero(reader)?;

@@ -3,7 +3,7 @@ ghost use Rattle.std.specs.Prelude.{◌≡◌, ◌+◌, ◌≤◌, ◌<◌, ◌^
 ghost use Rattle.std.specs.List.{flat_map};
 ghost use Rattle.definitions.specs.Ids.{id_text};
 ghost use Rattle.definitions.specs.Spelling.{written_array, written_text};
-ghost use Rattle.definitions.specs.Replies.{PlainReply, answer_bytes, reply_bytes, hit_item, written_number, ok_bytes, refusal_bytes, refusal_of_bytes, bad_request, no_memory};
+ghost use Rattle.definitions.specs.Replies.{PlainReply, plain_answer_bytes, plain_reply_bytes, hit_item, written_number, ok_bytes, refusal_bytes, refusal_of_bytes, bad_request, no_memory};
 ghost use Rattle.record_model.specs.Seen.{history_seen, histories_seen, answer_seen, refusal_seen, result_seen, reply_seen};
 ghost use Rattle.daemon_core.specs.Answering.{IsShort, IsCounted, WritesOr, head_bytes, hit_numbers, hit_texts};
 
@@ -22,7 +22,7 @@ const MOST_REPLY_BYTES: usize = 1 << 31;
 pub(crate) fn write_short(alloc: Global, reply: &Reply, into: &mut Bytes)
     requires room { length into.old.items + 64 ≤ into.old.reserved }
     requires short { IsShort (reply_seen reply.now).answer }
-    ensures written { into.new.items ≡ into.old.items ++ reply_bytes (reply_seen reply.now) }
+    ensures written { into.new.items ≡ into.old.items ++ plain_reply_bytes (reply_seen reply.now) }
     ensures reserved { into.old.reserved ≤ into.new.reserved }
     ensures small { length into.new.items ≤ length into.old.items + 64 }
 {
@@ -58,7 +58,7 @@ pub(crate) fn write_or_refuse(alloc: Global, reply: &Reply, into: &mut Bytes)
 /// Puts the bytes of a reply behind those that stand there, which stay as they were where there is no memory.
 fn append(alloc: Global, reply: &Reply, into: &mut Bytes) -> Result<(), NoMemory>
     requires { IsCounted (reply_seen reply.now).answer }
-    ensures ok { OnOk result (into.new.items ≡ into.old.items ++ reply_bytes (reply_seen reply.now)) }
+    ensures ok { OnOk result (into.new.items ≡ into.old.items ++ plain_reply_bytes (reply_seen reply.now)) }
     ensures err { OnErr result (into.new.items ≡ into.old.items) }
     ensures reserved { into.old.reserved ≤ into.new.reserved }
     ensures small { OnOk result (length into.new.items ≤ length into.old.items + 2 ^ 31) }
@@ -75,7 +75,7 @@ fn append(alloc: Global, reply: &Reply, into: &mut Bytes) -> Result<(), NoMemory
 /// Puts the refusal of a payload that is wrong at `place` behind the bytes that stand there.
 pub(crate) fn write_bad_request(alloc: Global, front: u64, place: usize, into: &mut Bytes)
     requires room { length into.old.items + 64 ≤ into.old.reserved }
-    ensures written { into.new.items ≡ into.old.items ++ answer_bytes front (bad_request place) }
+    ensures written { into.new.items ≡ into.old.items ++ plain_answer_bytes front (bad_request place) }
     ensures reserved { into.old.reserved ≤ into.new.reserved }
     ensures small { length into.new.items ≤ length into.old.items + 64 }
 {
@@ -88,7 +88,7 @@ pub(crate) fn write_bad_request(alloc: Global, front: u64, place: usize, into: &
 }
 
 fn put_bad_request(writer: &mut Writer, front: u64, place: u64) -> Result<(), NoMemory>
-    ensures ok { OnOk result (writer.new.items ≡ writer.old.items ++ answer_bytes front (bad_request place)) }
+    ensures ok { OnOk result (writer.new.items ≡ writer.old.items ++ plain_answer_bytes front (bad_request place)) }
     ensures reserved { writer.old.reserved ≤ writer.new.reserved }
     ensures short { OnOk result (length writer.new.items ≤ length writer.old.items + 64) }
     ensures enough { length writer.old.items + 64 ≤ writer.old.reserved → IsOk result }
@@ -100,7 +100,7 @@ fn put_bad_request(writer: &mut Writer, front: u64, place: u64) -> Result<(), No
 /// Writes a reply. Where memory runs out, some of it may stand behind the bytes from before.
 fn put_reply(writer: &mut Writer, reply: &Reply) -> Result<(), NoMemory>
     requires { IsCounted (reply_seen reply.now).answer }
-    ensures ok { OnOk result (writer.new.items ≡ writer.old.items ++ reply_bytes (reply_seen reply.now)) }
+    ensures ok { OnOk result (writer.new.items ≡ writer.old.items ++ plain_reply_bytes (reply_seen reply.now)) }
     ensures reserved { writer.old.reserved ≤ writer.new.reserved }
     ensures short { OnOk result (IsShort (reply_seen reply.now).answer → length writer.new.items ≤ length writer.old.items + 64) }
     ensures enough { IsShort (reply_seen reply.now).answer → length writer.old.items + 64 ≤ writer.old.reserved → IsOk result }
@@ -113,7 +113,7 @@ fn put_reply(writer: &mut Writer, reply: &Reply) -> Result<(), NoMemory>
 
 fn put_answer(writer: &mut Writer, front: u64, answer: &Answer) -> Result<(), NoMemory>
     requires { IsCounted (answer_seen answer.now) }
-    ensures ok { OnOk result (writer.new.items ≡ writer.old.items ++ answer_bytes front (answer_seen answer.now)) }
+    ensures ok { OnOk result (writer.new.items ≡ writer.old.items ++ plain_answer_bytes front (answer_seen answer.now)) }
     ensures reserved { writer.old.reserved ≤ writer.new.reserved }
     ensures short { OnOk result (IsShort (answer_seen answer.now) → length writer.new.items ≤ length writer.old.items + 64) }
     ensures enough { IsShort (answer_seen answer.now) → length writer.old.items + 64 ≤ writer.old.reserved → IsOk result }
@@ -127,7 +127,7 @@ fn put_answer(writer: &mut Writer, front: u64, answer: &Answer) -> Result<(), No
 }
 
 fn put_refusal(writer: &mut Writer, front: u64, refusal: Refusal) -> Result<(), NoMemory>
-    ensures ok { OnOk result (writer.new.items ≡ writer.old.items ++ answer_bytes front (refusal_seen refusal)) }
+    ensures ok { OnOk result (writer.new.items ≡ writer.old.items ++ plain_answer_bytes front (refusal_seen refusal)) }
     ensures reserved { writer.old.reserved ≤ writer.new.reserved }
     ensures short { OnOk result (length writer.new.items ≤ length writer.old.items + 64) }
     ensures enough { length writer.old.items + 64 ≤ writer.old.reserved → IsOk result }

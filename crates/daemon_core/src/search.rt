@@ -6,7 +6,7 @@ ghost use Rattle.std.specs.List.Sorted.{IsPermutation, IsSortedBy};
 ghost use Rattle.std.specs.Ordering.{is_lt};
 ghost use Rattle.std.specs.Char.{is_ascii_uppercase, to_ascii_lowercase};
 ghost use Rattle.definitions.specs.Journal.{ended_in};
-ghost use Rattle.definitions.specs.Search.{stands_in, matches_by, is_shown_before, hit_bytes, most_hit_bytes, IsPage, IsAnswer};
+ghost use Rattle.definitions.specs.Search.{stands_in, matches_by, is_shown_before, hit_bytes, most_shown_bytes, IsPage, IsAnswer};
 ghost use Rattle.record_model.specs.Seen.{mode_seen, history_seen, histories_seen};
 ghost use Rattle.daemon_core.specs.Entries.{entries_seen};
 ghost use Rattle.daemon_core.specs.Requests.{query_asked};
@@ -155,7 +155,7 @@ fn behind<'b, 'a>(hits: &'b [&'a History], offset: u32) -> &'b [&'a History]
 
 /// As many of the first hits as one reply may show.
 fn fitting<'b, 'a>(hits: &'b [&'a History], limit: u32) -> &'b [&'a History]
-    ensures page { IsPage limit (hits_of hits.now) (hits_of result.now) }
+    ensures page { IsPage hit_bytes limit (hits_of hits.now) (hits_of result.now) }
     ensures counted { length result.now < 2 ^ 32 }
 {
     let count = fitting_count(hits, limit);
@@ -164,7 +164,7 @@ fn fitting<'b, 'a>(hits: &'b [&'a History], limit: u32) -> &'b [&'a History]
 
 fn fitting_count(hits: &[&History], limit: u32) -> usize
     ensures within { result ≤ length hits.now }
-    ensures page { IsPage limit (hits_of hits.now) (hits_of (take result hits.now)) }
+    ensures page { IsPage hit_bytes limit (hits_of hits.now) (hits_of (take result hits.now)) }
 {
     let mut bytes = 0u64;
     for (index, hit) in hits.iter().enumerate() {
@@ -179,8 +179,8 @@ fn fitting_count(hits: &[&History], limit: u32) -> usize
 
 /// Whether a page of `count` hits may have one more, with which its texts have `bytes` bytes.
 fn may_go_on(count: usize, limit: u32, bytes: u64) -> bool
-    ensures yes { OnTrue result ((count < limit) × ((count ≡ 0) ⊎ (bytes ≤ most_hit_bytes))) }
-    ensures no { OnFalse result ((limit ≤ count) ⊎ ((0 < count) × (most_hit_bytes < bytes))) }
+    ensures yes { OnTrue result ((count < limit) × ((count ≡ 0) ⊎ (bytes ≤ most_shown_bytes))) }
+    ensures no { OnFalse result ((limit ≤ count) ⊎ ((0 < count) × (most_shown_bytes < bytes))) }
 {
     count < limit as usize && (count == 0 || bytes <= MOST_HIT_BYTES)
 }

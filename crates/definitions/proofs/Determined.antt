@@ -3,12 +3,12 @@ use Rattle.std.proofs.Common.{◌≡◌, ◌≢◌, ℕ, suc, ◌+◌, Bool, con
 use Rattle.std.proofs.lemmas.List.{take_at, drop_at}
 use Rattle.std.specs.List.{All}
 use Rattle.definitions.specs.Spelling.{IsBytes}
-use Rattle.definitions.specs.Calls.{PlainCall, start_call, end_call, search_call, SpellsCall, WrongAt}
+use Rattle.definitions.specs.Calls.{PlainCall, start_call, end_call, search_call, SpellsCall, plain_kinds, WrongAt}
 use Rattle.definitions.specs.Journal.{JournalEntry, SoundJournal}
-use Rattle.definitions.specs.Replies.{PlainAnswer, began_id, stored_index, hit_list, unknown_id, random_fault, id_taken, no_memory, bad_request, PlainReply, is_refusal}
-use Rattle.definitions.specs.Step.{Used, then_used, Step, unread, start_failed, start_taken, start_done, start_short, end_unbegun, end_again, end_done, end_short, searched, search_short}
+use Rattle.definitions.specs.Replies.{PlainAnswer, began_id, stored_index, hit_list, unknown_id, random_fault, id_taken, no_memory, bad_request, PlainReply, is_plain_refusal}
+use Rattle.definitions.specs.Step.{Used, then_used, PlainStep, unread, start_failed, start_taken, start_done, start_short, end_unbegun, end_again, end_done, end_short, searched, search_short}
 use Rattle.definitions.specs.Runs.{Run, is_random_fault}
-use Rattle.definitions.proofs.Calls.{one_call, never_both}
+use Rattle.definitions.proofs.Calls.{one_call, call_never_wrong}
 use Rattle.definitions.proofs.Runs.{Step-faults}
 use Rattle.definitions.proofs.Steps.{Step-refused, Step-sound}
 use Rattle.definitions.proofs.Outcomes.{Step-one}
@@ -27,7 +27,7 @@ draws_of (end_call id duration exit) failed = 0
 draws_of (search_call query) failed = 0
 
 pub data Uses (payload : List ℕ) (used : Used) (answer : PlainAnswer) : Type 0 where
-  uses_nothing : (place : ℕ) → WrongAt payload place → length used.readings ≡ 0 → length used.drawn ≡ 0 → Uses payload used answer
+  uses_nothing : (place : ℕ) → WrongAt plain_kinds payload place → length used.readings ≡ 0 → length used.drawn ≡ 0 → Uses payload used answer
   uses_of : (call : PlainCall) → SpellsCall call payload → length used.readings ≡ readings_of call → length used.drawn ≡ draws_of call (is_random_fault answer) → Uses payload used answer
 
 module _ (payload : List ℕ) (used : Used) (reply : PlainReply) where
@@ -36,7 +36,7 @@ module _ (payload : List ℕ) (used : Used) (reply : PlainReply) where
       let same : answer ≡ reply.answer = sym (ap (λ (x : PlainReply). x.answer) reply_is ∙ answer_is) in
       uses_of call spelled (ap (λ (x : Used). length x.readings) used_is ∙ readings) (ap (λ (x : Used). length x.drawn) used_is ∙ drawn ∙ ap (λ (x : PlainAnswer). draws_of call (is_random_fault x)) same)
 
-Step-uses : (old : List JournalEntry) (payload : List ℕ) (used : Used) (reply : PlainReply) (new : List JournalEntry) → Step old payload used reply new → Uses payload used reply.answer
+Step-uses : (old : List JournalEntry) (payload : List ℕ) (used : Used) (reply : PlainReply) (new : List JournalEntry) → PlainStep old payload used reply new → Uses payload used reply.answer
 Step-uses old payload used reply new (unread place w u r) = uses_nothing place w (ap (λ (x : Used). length x.readings) u) (ap (λ (x : Used). length x.drawn) u)
 Step-uses old payload used reply new (start_failed _ _ _ _ now s u r) = uses_at payload used reply _ _ _ _ s u r.reply_is refl refl refl
 Step-uses old payload used reply new (start_taken _ _ _ _ now drawn s ten u _ r) = uses_at payload used reply _ _ _ _ s u r.reply_is refl refl ten
@@ -51,8 +51,8 @@ Step-uses old payload used reply new (search_short _ s u r) = uses_at payload us
 
 same_uses : (payload : List ℕ) (a b : Used) (answer : PlainAnswer) → IsBytes payload → Uses payload a answer → Uses payload b answer → (length a.readings ≡ length b.readings) × (length a.drawn ≡ length b.drawn)
 same_uses payload a b answer are (uses_nothing place w r d) (uses_nothing place' w' r' d') = (r ∙ sym r', d ∙ sym d')
-same_uses payload a b answer are (uses_nothing place w r d) (uses_of call s r' d') = absurd (never_both payload call place are s w)
-same_uses payload a b answer are (uses_of call s r d) (uses_nothing place w r' d') = absurd (never_both payload call place are s w)
+same_uses payload a b answer are (uses_nothing place w r d) (uses_of call s r' d') = absurd (call_never_wrong payload call place are s w)
+same_uses payload a b answer are (uses_of call s r d) (uses_nothing place w r' d') = absurd (call_never_wrong payload call place are s w)
 same_uses payload a b answer are (uses_of call s r d) (uses_of other t r' d') =
     let same = one_call payload call other s t in
     (r ∙ ap readings_of same ∙ sym r', d ∙ ap (λ (c : PlainCall). draws_of c (is_random_fault answer)) same ∙ sym d')
@@ -88,10 +88,10 @@ is_no_memory (id_taken id) = inr (λ e. cc)
 is_no_memory no_memory = inl refl
 is_no_memory (bad_request place) = inr (λ e. cc)
 
-pub Step-journal : (old : List JournalEntry) (payload : List ℕ) (used : Used) (reply : PlainReply) (new new' : List JournalEntry) → IsBytes payload → SoundJournal old → Step old payload used reply new → Step old payload used reply new' → new ≡ new'
+pub Step-journal : (old : List JournalEntry) (payload : List ℕ) (used : Used) (reply : PlainReply) (new new' : List JournalEntry) → IsBytes payload → SoundJournal old → PlainStep old payload used reply new → PlainStep old payload used reply new' → new ≡ new'
 Step-journal old payload used reply new new' are sound step step' =
     elim (is_no_memory reply.answer) [
-      | inl want ↦ let refused = ap is_refusal want in Step-refused old payload used reply new step refused ∙ sym (Step-refused old payload used reply new' step' refused)
+      | inl want ↦ let refused = ap is_plain_refusal want in Step-refused old payload used reply new step refused ∙ sym (Step-refused old payload used reply new' step' refused)
       | inr told ↦ (Step-one old payload used reply reply new new' are sound told told step step').1
     ]
 
@@ -101,7 +101,7 @@ Run-journal old (payload ∷ payloads) used (reply ∷ replies) new new' are sou
     let bytes : IsBytes payload = are 0 [] (omega arith) in
     let faults : run.0.faults ≡ run'.0.faults = Step-faults old payload run.0 reply run.2 run.4 ∙ sym (Step-faults old payload run'.0 reply run'.2 run'.4) in
     let one = one_use payload reply run.0 run'.0 run.1 run'.1 bytes (Step-uses old payload run.0 reply run.2 run.4) (Step-uses old payload run'.0 reply run'.2 run'.4) faults (sym run.3 ∙ run'.3) in
-    let step' : Step old payload run.0 reply run'.2 = subst (λ (u : Used). Step old payload u reply run'.2) (sym one.0) run'.4 in
+    let step' : PlainStep old payload run.0 reply run'.2 = subst (λ (u : Used). PlainStep old payload u reply run'.2) (sym one.0) run'.4 in
     let same = Step-journal old payload run.0 reply run.2 run'.2 bytes sound run.4 step' in
     let rest : Run run'.2 payloads run.1 replies new' = subst (λ (u : Used). Run run'.2 payloads u replies new') (sym one.1) run'.5 in
     let rest' : Run run.2 payloads run.1 replies new' = subst (λ (j : List JournalEntry). Run j payloads run.1 replies new') (sym same) rest in

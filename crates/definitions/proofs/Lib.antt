@@ -4,6 +4,7 @@ pub mod Runs
 pub mod Frames
 pub mod Ids
 pub mod Items
+pub mod Numbered
 pub mod Calls
 pub mod Among
 pub mod Search

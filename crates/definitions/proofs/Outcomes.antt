@@ -5,14 +5,15 @@ use Rattle.std.specs.List.{Contains}
 use Rattle.std.proofs.Common.{eqb}
 use Rattle.std.proofs.lemmas.Bool.{eq-eqb}
 use Rattle.definitions.specs.Spelling.{IsBytes}
-use Rattle.definitions.specs.Calls.{PlainCall, start_call, end_call, search_call, SearchQuery, SpellsCall, WrongAt}
+use Rattle.definitions.specs.Calls.{PlainCall, start_call, end_call, search_call, SearchQuery, SpellsCall, plain_kinds, WrongAt}
 use Rattle.definitions.specs.Ids.{made_id}
 use Rattle.definitions.specs.Journal.{StartedRecord, HistoryRecord, JournalEntry, begun, ended, begun_in, ended_in, was_begun, has_ended, finished, SoundJournal}
 use Rattle.definitions.specs.Replies.{PlainAnswer, began_id, stored_index, hit_list, unknown_id, random_fault, id_taken, no_memory, bad_request, PlainReply}
 use Rattle.definitions.specs.Search.{IsAnswer}
-use Rattle.definitions.specs.Step.{Used, Refuses, Answers, Step, unread, start_failed, start_taken, start_done, start_short, end_unbegun, end_again, end_done, end_short, searched, search_short}
+use Rattle.definitions.specs.Step.{Used, PlainRefuses, Answers, PlainStep, unread, start_failed, start_taken, start_done, start_short, end_unbegun, end_again, end_done, end_short, searched, search_short}
 use Rattle.definitions.proofs.Among.{Among-from_place, one_passes, HaveOwnIds-one}
-use Rattle.definitions.proofs.Calls.{one_call, one_place, never_both}
+use Rattle.definitions.proofs.Calls.{most_kinds, one_call, call_never_wrong}
+use Rattle.definitions.proofs.Numbered.{one_place}
 use Rattle.definitions.proofs.Search.{IsAnswer-one}
 use Rattle.definitions.proofs.Steps.{Step-grows}
 
@@ -54,14 +55,14 @@ module _ (old : List JournalEntry) (id : ℕ) (duration exit : ℤ) (a b : Plain
 -- ---- a payload
 
 pub data Outcome (old : List JournalEntry) (payload : List ℕ) (used : Used) (answer : PlainAnswer) (new : List JournalEntry) : Type 0 where
-  was_wrong : (place : ℕ) → WrongAt payload place → answer ≡ bad_request place → new ≡ old → Outcome old payload used answer new
+  was_wrong : (place : ℕ) → WrongAt plain_kinds payload place → answer ≡ bad_request place → new ≡ old → Outcome old payload used answer new
   was_start : (command cwd session hostname : List ℕ) → SpellsCall (start_call command cwd session hostname) payload → ◌≡◌ {A = PlainAnswer × List JournalEntry} (answer, new) (start_outcome old command cwd session hostname used.readings used.drawn used.faults) → Outcome old payload used answer new
   was_end : (id : ℕ) (duration exit : ℤ) → SpellsCall (end_call id duration exit) payload → EndOutcome old id duration exit answer new → Outcome old payload used answer new
   was_search : (query : SearchQuery) (hits : List HistoryRecord) → SpellsCall (search_call query) payload → IsAnswer query (ended_in old) hits → answer ≡ hit_list hits → new ≡ old → Outcome old payload used answer new
   was_short : answer ≡ no_memory → Outcome old payload used answer new
 
 module _ (old : List JournalEntry) (used : Used) (reply : PlainReply) (new : List JournalEntry) where
-  refused_answer : (answer : PlainAnswer) → Refuses old new reply answer → reply.answer ≡ answer
+  refused_answer : (answer : PlainAnswer) → PlainRefuses old new reply answer → reply.answer ≡ answer
   refused_answer answer r = ap (λ (x : PlainReply). x.answer) r.reply_is
 
   answered_answer : (made : List JournalEntry) (answer : PlainAnswer) → Answers made new reply answer → reply.answer ≡ answer
@@ -77,7 +78,7 @@ module _ (old : List JournalEntry) (used : Used) (reply : PlainReply) (new : Lis
         pair : (a b : PlainAnswer) (x y : List JournalEntry) → a ≡ b → x ≡ y → ◌≡◌ {A = PlainAnswer × List JournalEntry} (a, x) (b, y)
         pair a b x y p q = cc
 
-Step-outcome : (old : List JournalEntry) (payload : List ℕ) (used : Used) (reply : PlainReply) (new : List JournalEntry) → Step old payload used reply new → Outcome old payload used reply.answer new
+Step-outcome : (old : List JournalEntry) (payload : List ℕ) (used : Used) (reply : PlainReply) (new : List JournalEntry) → PlainStep old payload used reply new → Outcome old payload used reply.answer new
 Step-outcome old payload used reply new (unread place w _ r) = was_wrong place w (refused_answer old used reply new _ r) r.journal
 Step-outcome old payload used reply new (start_failed command cwd session hostname now spelled u r) =
     was_start command cwd session hostname spelled (start_pair old used reply new command cwd session hostname _ _ _ u (refused_answer old used reply new _ r) r.journal refl)
@@ -94,8 +95,8 @@ Step-outcome old payload used reply new (searched query hits spelled _ found a) 
 Step-outcome old payload used reply new (search_short _ _ _ r) = was_short (refused_answer old used reply new _ r)
 
 module _ (old : List JournalEntry) (payload : List ℕ) (used : Used) (a b : PlainAnswer) (x y : List JournalEntry) (are : IsBytes payload) (sound : SoundJournal old) where
-  no_such : (call : PlainCall) (place : ℕ) → SpellsCall call payload → WrongAt payload place → (a ≡ b) × (x ≡ y)
-  no_such call place s w = absurd (never_both payload call place are s w)
+  no_such : (call : PlainCall) (place : ℕ) → SpellsCall call payload → WrongAt plain_kinds payload place → (a ≡ b) × (x ≡ y)
+  no_such call place s w = absurd (call_never_wrong payload call place are s w)
 
   other_call : (call other : PlainCall) → SpellsCall call payload → SpellsCall other payload → (call ≡ other → ⊥) → (a ≡ b) × (x ≡ y)
   other_call call other s t apart = absurd (apart (one_call payload call other s t))
@@ -113,7 +114,7 @@ module _ (old : List JournalEntry) (payload : List ℕ) (used : Used) (a b : Pla
   pub outcome_one : a ≢ no_memory → b ≢ no_memory → Outcome old payload used a x → Outcome old payload used b y → (a ≡ b) × (x ≡ y)
   outcome_one a_told b_told (was_short is) o = absurd (a_told is)
   outcome_one a_told b_told (was_wrong place w is kept) (was_short is') = absurd (b_told is')
-  outcome_one a_told b_told (was_wrong place w is kept) (was_wrong place' w' is' kept') = (is ∙ ap (λ (n : ℕ). bad_request n) (one_place payload place place' are w w') ∙ sym is', kept ∙ sym kept')
+  outcome_one a_told b_told (was_wrong place w is kept) (was_wrong place' w' is' kept') = (is ∙ ap (λ (n : ℕ). bad_request n) (one_place plain_kinds most_kinds payload place place' are w w') ∙ sym is', kept ∙ sym kept')
   outcome_one a_told b_told (was_wrong place w is kept) (was_start _ _ _ _ s _) = no_such _ place s w
   outcome_one a_told b_told (was_wrong place w is kept) (was_end _ _ _ s _) = no_such _ place s w
   outcome_one a_told b_told (was_wrong place w is kept) (was_search _ _ s _ _ _) = no_such _ place s w
@@ -144,7 +145,7 @@ module _ (old : List JournalEntry) (payload : List ℕ) (used : Used) (a b : Pla
 
 -- a payload has one reply, and leaves one journal
 pub Step-one : (old : List JournalEntry) (payload : List ℕ) (used : Used) (reply other : PlainReply) (new new' : List JournalEntry) → IsBytes payload → SoundJournal old → reply.answer ≢ no_memory → other.answer ≢ no_memory
-    → Step old payload used reply new → Step old payload used other new' → (reply ≡ other) × (new ≡ new')
+    → PlainStep old payload used reply new → PlainStep old payload used other new' → (reply ≡ other) × (new ≡ new')
 Step-one old payload used reply other new new' are sound told told' step step' =
     let one = outcome_one old payload used reply.answer other.answer new new' are sound told told' (Step-outcome old payload used reply new step) (Step-outcome old payload used other new' step') in
     let front = (Step-grows old payload used reply new step).front_is ∙ ap (λ (j : List JournalEntry). length j) one.1 ∙ sym (Step-grows old payload used other new' step').front_is in

@@ -4,7 +4,7 @@ use Rattle.std.specs.List.{All, Contains}
 use Rattle.std.proofs.lemmas.List.{get_or_append_left, get_or-append-add}
 use Rattle.definitions.specs.Journal.{StartedRecord, JournalEntry, begun, begun_in, FitsJournal}
 use Rattle.definitions.specs.Replies.{PlainReply}
-use Rattle.definitions.specs.Step.{Used, then_used, UsedFits, read_and_drew, Step, unread, start_failed, start_taken, start_done, start_short, end_unbegun, end_again, end_done, end_short, searched, search_short}
+use Rattle.definitions.specs.Step.{Used, then_used, UsedFits, read_and_drew, PlainStep, unread, start_failed, start_taken, start_done, start_short, end_unbegun, end_again, end_done, end_short, searched, search_short}
 use Rattle.definitions.specs.Runs.{Run}
 use Rattle.definitions.proofs.Bytes.{IsBytes-front, IsBytes-rest}
 use Rattle.definitions.proofs.Ids.{made_id-fits}
@@ -41,7 +41,7 @@ FitsJournal-ended journal more none fits t c =
     let same : begun_in (journal ++ more) ≡ begun_in journal ++ [] = begun_in-append journal more ∙ ap (λ (ss : List StartedRecord). begun_in journal ++ ss) none in
     fits t (subst (λ (ss : List StartedRecord). Contains ss t) (same ∙ append-nil (begun_in journal)) c)
 
-pub Step-fits : (old : List JournalEntry) (payload : List ℕ) (used : Used) (reply : PlainReply) (new : List JournalEntry) → UsedFits used → FitsJournal old → Step old payload used reply new → FitsJournal new
+pub Step-fits : (old : List JournalEntry) (payload : List ℕ) (used : Used) (reply : PlainReply) (new : List JournalEntry) → UsedFits used → FitsJournal old → PlainStep old payload used reply new → FitsJournal new
 Step-fits old payload used reply new in_range fits (unread _ _ _ r) = fits_at new old r.journal fits
 Step-fits old payload used reply new in_range fits (start_failed _ _ _ _ _ _ _ r) = fits_at new old r.journal fits
 Step-fits old payload used reply new in_range fits (start_taken _ _ _ _ _ _ _ _ _ _ r) = fits_at new old r.journal fits

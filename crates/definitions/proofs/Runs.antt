@@ -6,7 +6,7 @@ use Rattle.std.proofs.lemmas.List.Elements.{All-nil, All-append}
 use Rattle.definitions.proofs.Bytes.{IsBytes-append}
 use Rattle.definitions.specs.Journal.{JournalEntry}
 use Rattle.definitions.specs.Replies.{PlainReply}
-use Rattle.definitions.specs.Step.{Used, used_nothing, then_used, UsedFits, Step, unread, start_failed, start_taken, start_done, start_short, end_unbegun, end_again, end_done, end_short, searched, search_short}
+use Rattle.definitions.specs.Step.{Used, used_nothing, then_used, UsedFits, PlainStep, unread, start_failed, start_taken, start_done, start_short, end_unbegun, end_again, end_done, end_short, searched, search_short}
 use Rattle.definitions.specs.Runs.{Run, IsSplitRun, is_random_fault, random_faults}
 
 -- ---- what is used
@@ -31,7 +31,7 @@ UsedFits-then a b p q = (All-append (λ (now : ℕ). now < 2 ^ 64) a.readings b.
 pub Run-nothing : (old : List JournalEntry) → Run old [] used_nothing [] old
 Run-nothing old = (refl, refl)
 
-pub Run-one : (old : List JournalEntry) (payload : List ℕ) (used : Used) (reply : PlainReply) (new : List JournalEntry) → Step old payload used reply new → Run old (payload ∷ []) used (reply ∷ []) new
+pub Run-one : (old : List JournalEntry) (payload : List ℕ) (used : Used) (reply : PlainReply) (new : List JournalEntry) → PlainStep old payload used reply new → Run old (payload ∷ []) used (reply ∷ []) new
 Run-one old payload used reply new step = (used, used_nothing, new, sym (then_used-nothing used), step, (refl, refl))
 
 -- two runs one after the other are a run
@@ -53,7 +53,7 @@ Run-then old (payload ∷ payloads) used [] middle more used_more replies_more n
 
 -- a run goes on by one step at its end
 pub Run-more : (old middle : List JournalEntry) (payloads : List (List ℕ)) (used : Used) (replies : List PlainReply) (payload : List ℕ) (step_used : Used) (reply : PlainReply) (new : List JournalEntry)
-    → Run old payloads used replies middle → Step middle payload step_used reply new → Run old (payloads ++ payload ∷ []) (then_used used step_used) (replies ++ reply ∷ []) new
+    → Run old payloads used replies middle → PlainStep middle payload step_used reply new → Run old (payloads ++ payload ∷ []) (then_used used step_used) (replies ++ reply ∷ []) new
 Run-more old middle payloads used replies payload step_used reply new run step =
     Run-then old payloads used replies middle (payload ∷ []) step_used (reply ∷ []) new run (Run-one middle payload step_used reply new step)
 
@@ -92,7 +92,7 @@ pub random_faults-append : (replies more : List PlainReply) → random_faults (r
 random_faults-append replies more = sum_by-append (λ (reply : PlainReply). cond (is_random_fault reply.answer) 1 0) replies more
 
 -- a step has a fault exactly where its reply says so
-pub Step-faults : (old : List JournalEntry) (payload : List ℕ) (used : Used) (reply : PlainReply) (new : List JournalEntry) → Step old payload used reply new → used.faults ≡ random_faults (reply ∷ [])
+pub Step-faults : (old : List JournalEntry) (payload : List ℕ) (used : Used) (reply : PlainReply) (new : List JournalEntry) → PlainStep old payload used reply new → used.faults ≡ random_faults (reply ∷ [])
 Step-faults old payload used reply new (unread place _ u r) = faults-of _ _ _ _ u r.reply_is refl
 Step-faults old payload used reply new (start_failed _ _ _ _ now _ u r) = faults-of _ _ _ _ u r.reply_is refl
 Step-faults old payload used reply new (start_taken _ _ _ _ now drawn _ _ u _ r) = faults-of _ _ _ _ u r.reply_is refl

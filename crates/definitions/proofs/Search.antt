@@ -34,7 +34,7 @@ shown_order = record {
 abbrev pub IsShownFirst : HistoryRecord → HistoryRecord → Type 0
 IsShownFirst a b = (is_shown_before b a ≡ false) × (a.id ≢ b.id)
 
-IsShownFirst-strict : (a b : HistoryRecord) → IsShownFirst a b → IsShownFirst b a → ⊥
+pub IsShownFirst-strict : (a b : HistoryRecord) → IsShownFirst a b → IsShownFirst b a → ⊥
 IsShownFirst-strict a b p q = shown_apart a.timestamp a.id b.timestamp b.id q.0 p.0 p.1
 
 IsSortedBy-tail : (h : HistoryRecord) (hits : List HistoryRecord) → IsSortedBy is_shown_before (h ∷ hits) → IsSortedBy is_shown_before hits
@@ -43,7 +43,7 @@ IsSortedBy-tail h hits up k d low high =
     let there = up (suc k) d (omega arith) (omega arith) in
     rw next at there
 
-in_order : (hits : List HistoryRecord) → IsSortedBy is_shown_before hits → HaveOwnIds (λ h. h.id) hits → InOrder HistoryRecord IsShownFirst hits
+pub in_order : (hits : List HistoryRecord) → IsSortedBy is_shown_before hits → HaveOwnIds (λ h. h.id) hits → InOrder HistoryRecord IsShownFirst hits
 in_order [] up own = tt
 in_order (h ∷ hits) up own = (
   λ other m.
@@ -62,43 +62,44 @@ one_sorted all xs ys own p q xs_up ys_up =
 
 -- ---- pages
 
-FitsPage-front : (limit : ℕ) (xs ys : List HistoryRecord) → FitsPage limit (xs ++ ys) → FitsPage limit xs
-FitsPage-front limit xs ys fits =
-    let l : length (xs ++ ys) ≡ length xs + length ys = length-append xs ys in
-    let b : sum_by hit_bytes (xs ++ ys) ≡ sum_by hit_bytes xs + sum_by hit_bytes ys = sum_by-append hit_bytes xs ys in
-    let n = fits.0 in (
-      omega arith,
-      elim fits.1 [
-        | inl one ↦ inl (omega arith)
-        | inr small ↦ inr (omega arith)
-      ],
-    )
-
 -- of two fronts of a list one begins the other
-fronts : (xs ys a b : List HistoryRecord) → xs ++ a ≡ ys ++ b → ((m : List HistoryRecord) × (ys ≡ xs ++ m) × (a ≡ m ++ b)) ⊎ ((m : List HistoryRecord) × (xs ≡ ys ++ m) × (b ≡ m ++ a))
+fronts : {X : Type 0} (xs ys a b : List X) → xs ++ a ≡ ys ++ b → ((m : List X) × (ys ≡ xs ++ m) × (a ≡ m ++ b)) ⊎ ((m : List X) × (xs ≡ ys ++ m) × (b ≡ m ++ a))
 fronts [] ys a b e = inl (ys, refl, e)
 fronts (x ∷ xs) [] a b e = inr (x ∷ xs, refl, sym e)
-fronts (x ∷ xs) (y ∷ ys) a b e =
+fronts {X} (x ∷ xs) (y ∷ ys) a b e =
     let head : x ≡ y = cc in
     let tail : xs ++ a ≡ ys ++ b = cc in
     elim (fronts xs ys a b tail) [
-      | inl f ↦ inl (f.0, ap (λ (h : HistoryRecord). h ∷ ys) (sym head) ∙ ap (λ (hs : List HistoryRecord). x ∷ hs) f.1, f.2)
-      | inr f ↦ inr (f.0, ap (λ (h : HistoryRecord). h ∷ xs) head ∙ ap (λ (hs : List HistoryRecord). y ∷ hs) f.1, f.2)
+      | inl f ↦ inl (f.0, ap (λ (h : X). h ∷ ys) (sym head) ∙ ap (λ (hs : List X). x ∷ hs) f.1, f.2)
+      | inr f ↦ inr (f.0, ap (λ (h : X). h ∷ xs) head ∙ ap (λ (hs : List X). y ∷ hs) f.1, f.2)
     ]
 
--- nothing more fits behind a page
-no_more : (limit : ℕ) (all page longer m : List HistoryRecord) (p : IsPage limit all page) → FitsPage limit longer → longer ≡ page ++ m → (b : List HistoryRecord) → p.rest ≡ m ++ b → longer ≡ page
-no_more limit all page longer [] p fits e b r = e ∙ append-nil page
-no_more limit all page longer (next ∷ others) p fits e b r =
-    let one : FitsPage limit ((page ++ next ∷ []) ++ others) = subst (λ (hs : List HistoryRecord). FitsPage limit hs) (e ∙ sym (append_assoc page (next ∷ []) others)) fits in
-    absurd (p.most next (others ++ b) r (FitsPage-front limit (page ++ next ∷ []) others one))
+module _ {X : Type 0} (bytes_of : X → ℕ) (limit : ℕ) where
+  FitsPage-front : (xs ys : List X) → FitsPage bytes_of limit (xs ++ ys) → FitsPage bytes_of limit xs
+  FitsPage-front xs ys fits =
+      let l : length (xs ++ ys) ≡ length xs + length ys = length-append xs ys in
+      let b : sum_by bytes_of (xs ++ ys) ≡ sum_by bytes_of xs + sum_by bytes_of ys = sum_by-append bytes_of xs ys in
+      let n = fits.0 in (
+        omega arith,
+        elim fits.1 [
+          | inl one ↦ inl (omega arith)
+          | inr small ↦ inr (omega arith)
+        ],
+      )
 
-pub IsPage-one : (limit : ℕ) (all page other : List HistoryRecord) → IsPage limit all page → IsPage limit all other → page ≡ other
-IsPage-one limit all page other p q =
-    elim (fronts page other p.rest q.rest (sym p.front ∙ q.front)) [
-      | inl f ↦ sym (no_more limit all page other f.0 p q.fits f.1 q.rest f.2)
-      | inr f ↦ no_more limit all other page f.0 q p.fits f.1 p.rest f.2
-    ]
+  -- nothing more fits behind a page
+  no_more : (all page longer m : List X) (p : IsPage bytes_of limit all page) → FitsPage bytes_of limit longer → longer ≡ page ++ m → (b : List X) → p.rest ≡ m ++ b → longer ≡ page
+  no_more all page longer [] p fits e b r = e ∙ append-nil page
+  no_more all page longer (next ∷ others) p fits e b r =
+      let one : FitsPage bytes_of limit ((page ++ next ∷ []) ++ others) = subst (λ (hs : List X). FitsPage bytes_of limit hs) (e ∙ sym (append_assoc page (next ∷ []) others)) fits in
+      absurd (p.most next (others ++ b) r (FitsPage-front (page ++ next ∷ []) others one))
+
+  pub IsPage-one : (all page other : List X) → IsPage bytes_of limit all page → IsPage bytes_of limit all other → page ≡ other
+  IsPage-one all page other p q =
+      elim (fronts page other p.rest q.rest (sym p.front ∙ q.front)) [
+        | inl f ↦ sym (no_more all page other f.0 p q.fits f.1 q.rest f.2)
+        | inr f ↦ no_more all other page f.0 q p.fits f.1 p.rest f.2
+      ]
 
 -- a search has one answer
 pub IsAnswer-one : (query : SearchQuery) (entries page other : List HistoryRecord) → HaveOwnIds (λ h. h.id) entries → IsAnswer query entries page → IsAnswer query entries other → page ≡ other
@@ -106,7 +107,7 @@ IsAnswer-one query entries page other own p q =
     let all = filter (λ (h : HistoryRecord). matches_by query.mode query.text h.command) entries in
     let found = HaveOwnIds-filter HistoryRecord (λ h. h.id) (λ (h : HistoryRecord). matches_by query.mode query.text h.command) entries own in
     let same = one_sorted all p.in_order q.in_order found p.matching q.matching p.sorted q.sorted in
-    IsPage-one query.limit (drop query.offset q.in_order) page other (subst (λ (hs : List HistoryRecord). IsPage query.limit (drop query.offset hs) page) same p.cut) q.cut
+    IsPage-one hit_bytes query.limit (drop query.offset q.in_order) page other (subst (λ (hs : List HistoryRecord). IsPage hit_bytes query.limit (drop query.offset hs) page) same p.cut) q.cut
 
 -- ---- where a query stands
 

@@ -2,8 +2,8 @@
 use Rattle.std.proofs.Common.{◌≡◌, ℕ, ℤ, ◌+◌, false, List, [], ◌∷◌, ◌++◌, length, refl, sym, ap, subst, ◌∙◌, append_assoc, append-nil, arith, inl, inr, true}
 use Rattle.std.specs.List.{Contains}
 use Rattle.definitions.specs.Journal.{StartedRecord, HistoryRecord, JournalEntry, begun, ended, begun_in, ended_in, was_begun, has_ended, finished, HaveOwnIds, SoundJournal}
-use Rattle.definitions.specs.Replies.{PlainAnswer, PlainReply, is_refusal}
-use Rattle.definitions.specs.Step.{Used, Refuses, Answers, Step, unread, start_failed, start_taken, start_done, start_short, end_unbegun, end_again, end_done, end_short, searched, search_short}
+use Rattle.definitions.specs.Replies.{PlainAnswer, PlainReply, is_plain_refusal}
+use Rattle.definitions.specs.Step.{Used, PlainRefuses, Answers, PlainStep, unread, start_failed, start_taken, start_done, start_short, end_unbegun, end_again, end_done, end_short, searched, search_short}
 use Rattle.definitions.specs.Runs.{Run}
 use Rattle.definitions.proofs.Among.{Among, Among-from_place, Contains-from_Among, Among-append, HaveOwnIds-none, HaveOwnIds-more}
 
@@ -34,7 +34,7 @@ module _ (old : List JournalEntry) (reply : PlainReply) (new : List JournalEntry
     pub new_is : new ≡ old ++ added
     pub front_is : reply.front ≡ length new
 
-  kept : (answer : PlainAnswer) → Refuses old new reply answer → Grows
+  kept : (answer : PlainAnswer) → PlainRefuses old new reply answer → Grows
   kept answer r = record { added = []; new_is = r.journal ∙ sym (append-nil old); front_is = ap (λ (x : PlainReply). x.front) r.reply_is ∙ ap (λ (x : List JournalEntry). length x) (sym r.journal) }
 
   grown : (more : List JournalEntry) (answer : PlainAnswer) → Answers (old ++ more) new reply answer → Grows
@@ -43,7 +43,7 @@ module _ (old : List JournalEntry) (reply : PlainReply) (new : List JournalEntry
   shown : (answer : PlainAnswer) → Answers old new reply answer → Grows
   shown answer a = record { added = []; new_is = a.journal ∙ sym (append-nil old); front_is = ap (λ (x : PlainReply). x.front) a.reply_is ∙ ap (λ (x : List JournalEntry). length x) (sym a.journal) }
 
-pub Step-grows : (old : List JournalEntry) (payload : List ℕ) (used : Used) (reply : PlainReply) (new : List JournalEntry) → Step old payload used reply new → Grows old reply new
+pub Step-grows : (old : List JournalEntry) (payload : List ℕ) (used : Used) (reply : PlainReply) (new : List JournalEntry) → PlainStep old payload used reply new → Grows old reply new
 Step-grows old payload used reply new (unread _ _ _ r) = kept old reply new _ r
 Step-grows old payload used reply new (start_failed _ _ _ _ _ _ _ r) = kept old reply new _ r
 Step-grows old payload used reply new (start_taken _ _ _ _ _ _ _ _ _ _ r) = kept old reply new _ r
@@ -57,15 +57,15 @@ Step-grows old payload used reply new (searched _ _ _ _ _ a) = shown old reply n
 Step-grows old payload used reply new (search_short _ _ _ r) = kept old reply new _ r
 
 -- a refusal leaves the journal
-pub Step-refused : (old : List JournalEntry) (payload : List ℕ) (used : Used) (reply : PlainReply) (new : List JournalEntry) → Step old payload used reply new → is_refusal reply.answer ≡ true → new ≡ old
+pub Step-refused : (old : List JournalEntry) (payload : List ℕ) (used : Used) (reply : PlainReply) (new : List JournalEntry) → PlainStep old payload used reply new → is_plain_refusal reply.answer ≡ true → new ≡ old
 Step-refused old payload used reply new (unread _ _ _ r) e = r.journal
 Step-refused old payload used reply new (start_failed _ _ _ _ _ _ _ r) e = r.journal
 Step-refused old payload used reply new (start_taken _ _ _ _ _ _ _ _ _ _ r) e = r.journal
-Step-refused old payload used reply new (start_done _ _ _ _ _ _ _ _ _ _ a) e = absurd (let told = sym (ap (λ (x : PlainReply). is_refusal x.answer) a.reply_is) ∙ e in cc)
+Step-refused old payload used reply new (start_done _ _ _ _ _ _ _ _ _ _ a) e = absurd (let told = sym (ap (λ (x : PlainReply). is_plain_refusal x.answer) a.reply_is) ∙ e in cc)
 Step-refused old payload used reply new (start_short _ _ _ _ _ _ _ _ _ _ r) e = r.journal
 Step-refused old payload used reply new (end_unbegun _ _ _ _ _ _ _ r) e = r.journal
 Step-refused old payload used reply new (end_again _ _ _ _ _ _ _ r) e = r.journal
-Step-refused old payload used reply new (end_done _ _ _ _ _ _ _ _ _ _ a) e = absurd (let told = sym (ap (λ (x : PlainReply). is_refusal x.answer) a.reply_is) ∙ e in cc)
+Step-refused old payload used reply new (end_done _ _ _ _ _ _ _ _ _ _ a) e = absurd (let told = sym (ap (λ (x : PlainReply). is_plain_refusal x.answer) a.reply_is) ∙ e in cc)
 Step-refused old payload used reply new (end_short _ _ _ _ _ _ _ _ r) e = r.journal
 Step-refused old payload used reply new (searched _ _ _ _ _ a) e = a.journal
 Step-refused old payload used reply new (search_short _ _ _ r) e = r.journal
@@ -129,7 +129,7 @@ SoundJournal-ended journal s duration exit sound started new =
 sound_at : (a b : List JournalEntry) → a ≡ b → SoundJournal b → SoundJournal a
 sound_at a b e sound = subst SoundJournal (sym e) sound
 
-pub Step-sound : (old : List JournalEntry) (payload : List ℕ) (used : Used) (reply : PlainReply) (new : List JournalEntry) → SoundJournal old → Step old payload used reply new → SoundJournal new
+pub Step-sound : (old : List JournalEntry) (payload : List ℕ) (used : Used) (reply : PlainReply) (new : List JournalEntry) → SoundJournal old → PlainStep old payload used reply new → SoundJournal new
 Step-sound old payload used reply new sound (unread _ _ _ r) = sound_at new old r.journal sound
 Step-sound old payload used reply new sound (start_failed _ _ _ _ _ _ _ r) = sound_at new old r.journal sound
 Step-sound old payload used reply new sound (start_taken _ _ _ _ _ _ _ _ _ _ r) = sound_at new old r.journal sound

@@ -4,26 +4,6 @@ use Rattle.std.specs.Int.{w64}
 use Rattle.definitions.specs.Spelling.{SpellsInteger, SpellsText, SpellsArray}
 use Rattle.definitions.specs.Ids.{id_text}
 
--- ---- calls
-
--- how a search compares: the query begins the command, or stands anywhere in it
-pub data SearchMode : Type 0 where
-  by_prefix : SearchMode
-  by_substring : SearchMode
-
-pub record SearchQuery : Type 0 where
-  pub mode : SearchMode
-  pub text : List ℕ
-  pub offset : ℕ
-  pub limit : ℕ
-
-pub data PlainCall : Type 0 where
-  -- command, working directory, session and host name
-  start_call : List ℕ → List ℕ → List ℕ → List ℕ → PlainCall
-  -- the id of a running command, its duration in nanoseconds and its exit status
-  end_call : ℕ → ℤ → ℤ → PlainCall
-  search_call : SearchQuery → PlainCall
-
 -- ---- arguments
 
 pub data Argument : Type 0 where
@@ -53,6 +33,75 @@ IsOfKind signed_64 (an_integer z) = FitsSigned w64 z
 IsOfKind (from_to low high) (an_integer (pos n)) = (low ≤ n) × (n ≤ high)
 IsOfKind _ _ = ⊥
 
+-- ---- payloads
+
+-- arguments of these kinds, one spelled after another
+abbrev pub SpellsArguments : List Kind → List Argument → List ℕ → Type 0
+SpellsArguments [] [] bytes = bytes ≡ []
+SpellsArguments (kind ∷ kinds_after) (argument ∷ arguments_after) bytes =
+    (first : List ℕ) × (rest : List ℕ) × IsOfKind kind argument × SpellsArgument argument first × SpellsArguments kinds_after arguments_after rest × (bytes ≡ first ++ rest)
+SpellsArguments _ _ bytes = ⊥
+
+-- An array of a call's number and its arguments, in any widths that hold them, and nothing more. The table tells which
+-- number is that of a call, and of what kinds its arguments are.
+pub record SpellsNumbered (table : ℕ → Option (List Kind)) (n : ℕ) (arguments : List Argument) (payload : List ℕ) : Type 0 where
+  pub header : List ℕ
+  pub number : List ℕ
+  pub rest : List ℕ
+  pub all_kinds : List Kind
+  pub kinds_are : table n ≡ Some all_kinds
+  pub is_header : SpellsArray (1 + length all_kinds) header
+  pub is_number : SpellsInteger (pos n) number
+  pub are_arguments : SpellsArguments all_kinds arguments rest
+  pub are : payload ≡ header ++ (number ++ rest)
+
+-- no front of the bytes is spelled so
+abbrev pub NoFront : (List ℕ → Type 0) → List ℕ → Type 0
+NoFront Spelled bytes = (front rest : List ℕ) → bytes ≡ front ++ rest → Spelled front → ⊥
+
+-- the items that a payload may have: its header, of 1 to 8 items, its number, and an argument of a kind
+abbrev pub IsHeader : List ℕ → Type 0
+IsHeader bytes = (n : ℕ) × (1 ≤ n) × (n ≤ 8) × SpellsArray n bytes
+
+abbrev pub IsNumber : (ℕ → Option (List Kind)) → List ℕ → Type 0
+IsNumber table bytes = (n : ℕ) × IsSome (table n) × SpellsInteger (pos n) bytes
+
+abbrev pub IsArgument : Kind → List ℕ → Type 0
+IsArgument kind bytes = (argument : Argument) × IsOfKind kind argument × SpellsArgument argument bytes
+
+-- Reading from the left, the first wrong item of the payload has its first byte at this place. The number is judged
+-- before the array's length, and a wrong length is a fault of the header, at place 0. Then comes each argument, and then
+-- what stands behind the last one. An item that is cut is wrong at its first byte.
+pub data WrongAt (table : ℕ → Option (List Kind)) (payload : List ℕ) (place : ℕ) : Type 0 where
+  wrong_header : NoFront IsHeader payload → place ≡ 0 → WrongAt table payload place
+  wrong_number : (header rest : List ℕ) → payload ≡ header ++ rest → IsHeader header → NoFront (IsNumber table) rest → place ≡ length header → WrongAt table payload place
+  wrong_length : (n c : ℕ) (header number rest : List ℕ) (all_kinds : List Kind) → payload ≡ header ++ (number ++ rest) → SpellsArray n header → 1 ≤ n → n ≤ 8
+      → SpellsInteger (pos c) number → table c ≡ Some all_kinds → n ≢ 1 + length all_kinds → place ≡ 0 → WrongAt table payload place
+  wrong_argument : (c : ℕ) (header number read rest : List ℕ) (before : List Kind) (kind : Kind) (after : List Kind) (good : List Argument) → payload ≡ header ++ (number ++ (read ++ rest))
+      → SpellsArray (1 + length (before ++ kind ∷ after)) header → SpellsInteger (pos c) number → table c ≡ Some (before ++ kind ∷ after) → SpellsArguments before good read
+      → NoFront (IsArgument kind) rest → place ≡ length (header ++ (number ++ read)) → WrongAt table payload place
+  left_over : (c : ℕ) (good : List Argument) (spelled rest : List ℕ) → payload ≡ spelled ++ rest → SpellsNumbered table c good spelled → rest ≢ [] → place ≡ length spelled → WrongAt table payload place
+
+-- ---- the calls of a plain journal
+
+-- how a search compares: the query begins the command, or stands anywhere in it
+pub data SearchMode : Type 0 where
+  by_prefix : SearchMode
+  by_substring : SearchMode
+
+pub record SearchQuery : Type 0 where
+  pub mode : SearchMode
+  pub text : List ℕ
+  pub offset : ℕ
+  pub limit : ℕ
+
+pub data PlainCall : Type 0 where
+  -- command, working directory, session and host name
+  start_call : List ℕ → List ℕ → List ℕ → List ℕ → PlainCall
+  -- the id of a running command, its duration in nanoseconds and its exit status
+  end_call : ℕ → ℤ → ℤ → PlainCall
+  search_call : SearchQuery → PlainCall
+
 -- the arguments of a Start, an End and a Search; a Search has no filter and no unique hits yet
 abbrev pub start_kinds : List Kind
 start_kinds = any_text ∷ any_text ∷ any_text ∷ any_text ∷ []
@@ -60,12 +109,12 @@ start_kinds = any_text ∷ any_text ∷ any_text ∷ any_text ∷ []
 abbrev pub end_kinds : List Kind
 end_kinds = id_digits ∷ signed_64 ∷ signed_64 ∷ []
 
-abbrev pub search_kinds : List Kind
-search_kinds = from_to 0 1 ∷ from_to 0 0 ∷ empty_text ∷ any_text ∷ from_to 0 0 ∷ from_to 0 (2 ^ 32 - 1) ∷ from_to 1 1000 ∷ []
+abbrev pub plain_search_kinds : List Kind
+plain_search_kinds = from_to 0 1 ∷ from_to 0 0 ∷ empty_text ∷ any_text ∷ from_to 0 0 ∷ from_to 0 (2 ^ 32 - 1) ∷ from_to 1 1000 ∷ []
 
--- the arguments of the call of a number: 1 Start, 2 End, 4 Search
-abbrev pub kinds : ℕ → Option (List Kind)
-kinds n = if n == 1 then Some start_kinds else (if n == 2 then Some end_kinds else (if n == 4 then Some search_kinds else None))
+-- the kinds of the arguments of the call of a number: 1 Start, 2 End, 4 Search
+abbrev pub plain_kinds : ℕ → Option (List Kind)
+plain_kinds n = if n == 1 then Some start_kinds else (if n == 2 then Some end_kinds else (if n == 4 then Some plain_search_kinds else None))
 
 abbrev pub mode_number : SearchMode → ℕ
 mode_number by_prefix = 0
@@ -82,56 +131,13 @@ arguments (end_call id duration exit) = a_text (id_text id) ∷ an_integer durat
 arguments (search_call query) =
     an_integer (pos (mode_number query.mode)) ∷ an_integer (pos 0) ∷ a_text [] ∷ a_text query.text ∷ an_integer (pos 0) ∷ an_integer (pos query.offset) ∷ an_integer (pos query.limit) ∷ []
 
--- ---- payloads
-
--- arguments of these kinds, one spelled after another
-abbrev pub SpellsArguments : List Kind → List Argument → List ℕ → Type 0
-SpellsArguments [] [] bytes = bytes ≡ []
-SpellsArguments (kind ∷ kinds_after) (argument ∷ arguments_after) bytes =
-    (first : List ℕ) × (rest : List ℕ) × IsOfKind kind argument × SpellsArgument argument first × SpellsArguments kinds_after arguments_after rest × (bytes ≡ first ++ rest)
-SpellsArguments _ _ bytes = ⊥
-
 -- an id has 128 bits
 abbrev pub IdFits : PlainCall → Type 0
 IdFits (start_call command cwd session hostname) = Unit {0}
 IdFits (end_call id duration exit) = id < 2 ^ 128
 IdFits (search_call query) = Unit {0}
 
--- an array of the call's number and its arguments
+-- the payload is the call's number and its arguments
 pub record SpellsCall (call : PlainCall) (payload : List ℕ) : Type 0 where
-  pub header : List ℕ
-  pub number : List ℕ
-  pub rest : List ℕ
-  pub all_kinds : List Kind
   pub id_fits : IdFits call
-  pub kinds_are : kinds (call_number call) ≡ Some all_kinds
-  pub is_header : SpellsArray (1 + length all_kinds) header
-  pub is_number : SpellsInteger (pos (call_number call)) number
-  pub are_arguments : SpellsArguments all_kinds (arguments call) rest
-  pub are : payload ≡ header ++ (number ++ rest)
-
--- no front of the bytes is spelled so
-abbrev pub NoFront : (List ℕ → Type 0) → List ℕ → Type 0
-NoFront Spelled bytes = (front rest : List ℕ) → bytes ≡ front ++ rest → Spelled front → ⊥
-
--- the items that a call may have: its header, of 1 to 8 items, its number, and an argument of a kind
-abbrev pub IsHeader : List ℕ → Type 0
-IsHeader bytes = (n : ℕ) × (1 ≤ n) × (n ≤ 8) × SpellsArray n bytes
-
-abbrev pub IsNumber : List ℕ → Type 0
-IsNumber bytes = (n : ℕ) × IsSome (kinds n) × SpellsInteger (pos n) bytes
-
-abbrev pub IsArgument : Kind → List ℕ → Type 0
-IsArgument kind bytes = (argument : Argument) × IsOfKind kind argument × SpellsArgument argument bytes
-
--- Reading from the left, the first wrong item of the payload has its first byte at this place. The number is judged
--- before the array's length, and a wrong length is a fault of the header, at place 0.
-pub data WrongAt (payload : List ℕ) (place : ℕ) : Type 0 where
-  wrong_header : NoFront IsHeader payload → place ≡ 0 → WrongAt payload place
-  wrong_number : (header rest : List ℕ) → payload ≡ header ++ rest → IsHeader header → NoFront IsNumber rest → place ≡ length header → WrongAt payload place
-  wrong_length : (n c : ℕ) (header number rest : List ℕ) (all_kinds : List Kind) → payload ≡ header ++ (number ++ rest) → SpellsArray n header → 1 ≤ n → n ≤ 8
-      → SpellsInteger (pos c) number → kinds c ≡ Some all_kinds → n ≢ 1 + length all_kinds → place ≡ 0 → WrongAt payload place
-  wrong_argument : (c : ℕ) (header number read rest : List ℕ) (before : List Kind) (kind : Kind) (after : List Kind) (good : List Argument) → payload ≡ header ++ (number ++ (read ++ rest))
-      → SpellsArray (1 + length (before ++ kind ∷ after)) header → SpellsInteger (pos c) number → kinds c ≡ Some (before ++ kind ∷ after) → SpellsArguments before good read
-      → NoFront (IsArgument kind) rest → place ≡ length (header ++ (number ++ read)) → WrongAt payload place
-  left_over : (call : PlainCall) (spelled rest : List ℕ) → payload ≡ spelled ++ rest → SpellsCall call spelled → rest ≢ [] → place ≡ length spelled → WrongAt payload place
+  pub numbered : SpellsNumbered plain_kinds (call_number call) (arguments call) payload

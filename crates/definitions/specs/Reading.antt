@@ -5,7 +5,7 @@ use Rattle.std.specs.Int.{Width, w8, w16, w32, w64, byte_len, from_be_bytes, cas
 use Rattle.std.specs.List.{list_all, fold}
 use Rattle.std.specs.Char.{digit_value}
 use Rattle.std.specs.Str.{is_utf8}
-use Rattle.definitions.specs.Calls.{Argument, a_text, an_integer, Kind, any_text, empty_text, id_digits, signed_64, from_to, kinds}
+use Rattle.definitions.specs.Calls.{Argument, a_text, an_integer, Kind, any_text, empty_text, id_digits, signed_64, from_to}
 
 -- ---- items: a value and the bytes behind it, or nothing where no such item stands there
 
@@ -93,18 +93,18 @@ arguments_at [] bytes = Ok ([], bytes)
 arguments_at (kind ∷ others) bytes =
     argument_at kind bytes >=> λ first. arguments_at others first.1 >=> λ more. Ok (first.0 ∷ more.0, more.1)
 
--- the number of a call, and the kinds of its arguments
-abbrev pub is_call_number : ℤ → Bool
-is_call_number (pos n) = is_some (kinds n)
-is_call_number (negsuc n) = false
+-- the number of a call of the table, and the kinds of its arguments
+abbrev pub is_call_number : (ℕ → Option (List Kind)) → ℤ → Bool
+is_call_number table (pos n) = is_some (table n)
+is_call_number table (negsuc n) = false
 
 abbrev pub or_none : Option (List Kind) → List Kind
 or_none None = []
 or_none (Some all_kinds) = all_kinds
 
-abbrev pub kinds_of : ℤ → List Kind
-kinds_of (pos n) = or_none (kinds n)
-kinds_of (negsuc n) = []
+abbrev pub kinds_of : (ℕ → Option (List Kind)) → ℤ → List Kind
+kinds_of table (pos n) = or_none (table n)
+kinds_of table (negsuc n) = []
 
 -- the arguments, to the payload's last byte
 unfoldable pub last_arguments_at : List Kind → List ℕ → Result (List Argument) ℕ
@@ -114,8 +114,8 @@ last_arguments_at all_kinds bytes =
 abbrev pub is_call_length : ℕ → Bool
 is_call_length n = nat_le 1 n && nat_le n 8
 
--- a call's number and its arguments
-unfoldable pub call_at : List ℕ → Result (ℤ × List Argument) ℕ
-call_at payload =
-    item_at (array_at payload) is_call_length payload >=> λ n. item_at (integer_at n.1) is_call_number n.1 >=> λ c.
-    if n.0 == 1 + length (kinds_of c.0) then (last_arguments_at (kinds_of c.0) c.1 >=> λ read. Ok (c.0, read)) else Err (length payload)
+-- a call's number and its arguments, or how many bytes were left at the wrong item
+unfoldable pub call_at : (ℕ → Option (List Kind)) → List ℕ → Result (ℤ × List Argument) ℕ
+call_at table payload =
+    item_at (array_at payload) is_call_length payload >=> λ n. item_at (integer_at n.1) (is_call_number table) n.1 >=> λ c.
+    if n.0 == 1 + length (kinds_of table c.0) then (last_arguments_at (kinds_of table c.0) c.1 >=> λ read. Ok (c.0, read)) else Err (length payload)

@@ -12,22 +12,21 @@ pub data PlainAnswer : Type 0 where
   -- the index of the record that was stored, from 0
   stored_index : ℕ → PlainAnswer
   hit_list : List HistoryRecord → PlainAnswer
-  -- refusals 2, 5, 6, 8 and 9
   unknown_id : ℕ → PlainAnswer
   random_fault : PlainAnswer
   id_taken : ℕ → PlainAnswer
   no_memory : PlainAnswer
   bad_request : ℕ → PlainAnswer
 
-abbrev pub is_refusal : PlainAnswer → Bool
-is_refusal (began_id id) = false
-is_refusal (stored_index index) = false
-is_refusal (hit_list hits) = false
-is_refusal (unknown_id id) = true
-is_refusal random_fault = true
-is_refusal (id_taken id) = true
-is_refusal no_memory = true
-is_refusal (bad_request place) = true
+abbrev pub is_plain_refusal : PlainAnswer → Bool
+is_plain_refusal (began_id id) = false
+is_plain_refusal (stored_index index) = false
+is_plain_refusal (hit_list hits) = false
+is_plain_refusal (unknown_id id) = true
+is_plain_refusal random_fault = true
+is_plain_refusal (id_taken id) = true
+is_plain_refusal no_memory = true
+is_plain_refusal (bad_request place) = true
 
 pub record PlainReply : Type 0 where
   pub front : ℕ
@@ -50,15 +49,41 @@ refusal_bytes number front = written_array 2 ++ (written_number number ++ writte
 abbrev pub refusal_of_bytes : ℕ → ℕ → List ℕ → List ℕ
 refusal_of_bytes number front value = written_array 3 ++ (written_number number ++ (written_number front ++ value))
 
-abbrev pub answer_bytes : ℕ → PlainAnswer → List ℕ
-answer_bytes front (began_id id) = ok_bytes front (written_text (id_text id))
-answer_bytes front (stored_index index) = ok_bytes front (written_number index)
-answer_bytes front (hit_list hits) = ok_bytes front (written_array (length hits) ++ flat_map hit_item hits)
-answer_bytes front (unknown_id id) = refusal_of_bytes 2 front (written_text (id_text id))
-answer_bytes front random_fault = refusal_bytes 5 front
-answer_bytes front (id_taken id) = refusal_of_bytes 6 front (written_text (id_text id))
-answer_bytes front no_memory = refusal_bytes 8 front
-answer_bytes front (bad_request place) = refusal_of_bytes 9 front (written_number place)
+-- ---- the answers, and the refusals under their numbers
 
-abbrev pub reply_bytes : PlainReply → List ℕ
-reply_bytes reply = answer_bytes reply.front reply.answer
+abbrev pub began_bytes : ℕ → ℕ → List ℕ
+began_bytes front id = ok_bytes front (written_text (id_text id))
+
+abbrev pub stored_bytes : ℕ → ℕ → List ℕ
+stored_bytes front index = ok_bytes front (written_number index)
+
+abbrev pub hits_bytes : ℕ → List HistoryRecord → List ℕ
+hits_bytes front hits = ok_bytes front (written_array (length hits) ++ flat_map hit_item hits)
+
+abbrev pub unknown_id_bytes : ℕ → ℕ → List ℕ
+unknown_id_bytes front id = refusal_of_bytes 2 front (written_text (id_text id))
+
+abbrev pub random_fault_bytes : ℕ → List ℕ
+random_fault_bytes front = refusal_bytes 5 front
+
+abbrev pub id_taken_bytes : ℕ → ℕ → List ℕ
+id_taken_bytes front id = refusal_of_bytes 6 front (written_text (id_text id))
+
+abbrev pub no_memory_bytes : ℕ → List ℕ
+no_memory_bytes front = refusal_bytes 8 front
+
+abbrev pub bad_request_bytes : ℕ → ℕ → List ℕ
+bad_request_bytes front place = refusal_of_bytes 9 front (written_number place)
+
+abbrev pub plain_answer_bytes : ℕ → PlainAnswer → List ℕ
+plain_answer_bytes front (began_id id) = began_bytes front id
+plain_answer_bytes front (stored_index index) = stored_bytes front index
+plain_answer_bytes front (hit_list hits) = hits_bytes front hits
+plain_answer_bytes front (unknown_id id) = unknown_id_bytes front id
+plain_answer_bytes front random_fault = random_fault_bytes front
+plain_answer_bytes front (id_taken id) = id_taken_bytes front id
+plain_answer_bytes front no_memory = no_memory_bytes front
+plain_answer_bytes front (bad_request place) = bad_request_bytes front place
+
+abbrev pub plain_reply_bytes : PlainReply → List ℕ
+plain_reply_bytes reply = plain_answer_bytes reply.front reply.answer

@@ -3,13 +3,13 @@ use Rattle.std.specs.Prelude.{◌≡◌, ℕ, List, [], ◌∷◌, ◌++◌, Boo
 use Rattle.std.specs.List.{count_by}
 use Rattle.definitions.specs.Journal.{JournalEntry}
 use Rattle.definitions.specs.Replies.{PlainAnswer, began_id, stored_index, hit_list, unknown_id, random_fault, id_taken, no_memory, bad_request, PlainReply}
-use Rattle.definitions.specs.Step.{Used, used_nothing, then_used, Step}
+use Rattle.definitions.specs.Step.{Used, used_nothing, then_used, PlainStep}
 
 -- From the old journal the payloads get these replies, in order, and leave the new journal.
 abbrev pub Run : List JournalEntry → List (List ℕ) → Used → List PlainReply → List JournalEntry → Type 0
 Run old [] used [] new = (used ≡ used_nothing) × (new ≡ old)
 Run old (payload ∷ payloads) used (reply ∷ replies) new =
-    (first : Used) × (rest : Used) × (between : List JournalEntry) × (used ≡ then_used first rest) × Step old payload first reply between × Run between payloads rest replies new
+    (first : Used) × (rest : Used) × (between : List JournalEntry) × (used ≡ then_used first rest) × PlainStep old payload first reply between × Run between payloads rest replies new
 Run old _ used _ new = ⊥
 
 -- a run over a list in two parts, as two runs one after the other

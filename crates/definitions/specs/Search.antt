@@ -6,9 +6,9 @@ use Rattle.std.specs.Char.{is_ascii_uppercase, to_ascii_lowercase}
 use Rattle.definitions.specs.Calls.{SearchMode, by_prefix, by_substring, SearchQuery}
 use Rattle.definitions.specs.Journal.{HistoryRecord}
 
--- the texts of a page of hits together have at most this many bytes, unless it is a single hit
-abbrev pub most_hit_bytes : ℕ
-most_hit_bytes = 4194304
+-- what several items in one reply may weigh together, in bytes of their texts
+abbrev pub most_shown_bytes : ℕ
+most_shown_bytes = 4194304
 
 -- Smart case: a query without ASCII capitals is compared with the command's ASCII letters folded, any other exactly.
 abbrev pub compared : List ℕ → List ℕ → List ℕ
@@ -30,20 +30,20 @@ is_shown_before a b = nat_lt b.timestamp a.timestamp || (a.timestamp == b.timest
 abbrev pub hit_bytes : HistoryRecord → ℕ
 hit_bytes h = length h.command + length h.cwd + length h.session + length h.hostname
 
--- hits that one reply may show
-abbrev pub FitsPage : ℕ → List HistoryRecord → Type 0
-FitsPage limit hits = (length hits ≤ limit) × ((length hits ≤ 1) ⊎ (sum_by hit_bytes hits ≤ most_hit_bytes))
+-- items that one reply may show: at most so many, and, where there are several, so light together
+abbrev pub FitsPage : {X : Type 0} → (X → ℕ) → ℕ → List X → Type 0
+FitsPage bytes_of limit items = (length items ≤ limit) × ((length items ≤ 1) ⊎ (sum_by bytes_of items ≤ most_shown_bytes))
 
--- as many of the first hits as one reply may show
-pub record IsPage (limit : ℕ) (all page : List HistoryRecord) : Type 0 where
-  pub rest : List HistoryRecord
+-- as many of the first items as one reply may show
+pub record IsPage {X : Type 0} (bytes_of : X → ℕ) (limit : ℕ) (all page : List X) : Type 0 where
+  pub rest : List X
   pub front : all ≡ page ++ rest
-  pub fits : FitsPage limit page
-  pub most : (next : HistoryRecord) (others : List HistoryRecord) → rest ≡ next ∷ others → FitsPage limit (page ++ next ∷ []) → ⊥
+  pub fits : FitsPage bytes_of limit page
+  pub most : (next : X) (others : List X) → rest ≡ next ∷ others → FitsPage bytes_of limit (page ++ next ∷ []) → ⊥
 
 -- the answer to a query: those that match, in order, without the first `offset`, and as many as fit
 pub record IsAnswer (query : SearchQuery) (entries page : List HistoryRecord) : Type 0 where
   pub in_order : List HistoryRecord
   pub matching : IsPermutation (filter (λ (h : HistoryRecord). matches_by query.mode query.text h.command) entries) in_order
   pub sorted : IsSortedBy is_shown_before in_order
-  pub cut : IsPage query.limit (drop query.offset in_order) page
+  pub cut : IsPage hit_bytes query.limit (drop query.offset in_order) page

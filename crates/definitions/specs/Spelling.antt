@@ -107,6 +107,11 @@ text_head str_8 n = 0xd9 ∷ to_be_bytes w8 n
 text_head str_16 n = 0xda ∷ to_be_bytes w16 n
 text_head str_32 n = 0xdb ∷ to_be_bytes w32 n
 
+-- a text that a form can hold is UTF-8, and has fewer than 2^32 bytes
+pub record TextFits (text : List ℕ) : Type 0 where
+  pub utf8 : IsUtf8 text
+  pub short : length text < 2 ^ 32
+
 -- the bytes spell the text, which is UTF-8: a head with its length, then the text
 pub record SpellsText (text bytes : List ℕ) : Type 0 where
   pub form : TextForm

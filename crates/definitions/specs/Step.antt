@@ -2,7 +2,7 @@
 use Rattle.std.specs.Prelude.{◌≡◌, ℕ, ◌+◌, ◌<◌, ◌^◌, ℤ, List, [], ◌∷◌, ◌++◌, length, true, false}
 use Rattle.std.specs.List.{All, Contains}
 use Rattle.definitions.specs.Spelling.{IsBytes}
-use Rattle.definitions.specs.Calls.{start_call, end_call, search_call, SearchQuery, SpellsCall, WrongAt}
+use Rattle.definitions.specs.Calls.{start_call, end_call, search_call, SearchQuery, SpellsCall, plain_kinds, WrongAt}
 use Rattle.definitions.specs.Ids.{made_id}
 use Rattle.definitions.specs.Journal.{StartedRecord, HistoryRecord, JournalEntry, begun, ended, begun_in, ended_in, was_begun, has_ended, finished}
 use Rattle.definitions.specs.Search.{IsAnswer}
@@ -39,7 +39,7 @@ abbrev pub answered_at : List JournalEntry → PlainAnswer → PlainReply
 answered_at journal answer = record { front = length journal; answer = answer }
 
 -- a refused call leaves the journal
-pub record Refuses (old new : List JournalEntry) (reply : PlainReply) (answer : PlainAnswer) : Type 0 where
+pub record PlainRefuses (old new : List JournalEntry) (reply : PlainReply) (answer : PlainAnswer) : Type 0 where
   pub journal : new ≡ old
   pub reply_is : reply ≡ answered_at old answer
 
@@ -48,31 +48,31 @@ pub record Answers (made new : List JournalEntry) (reply : PlainReply) (answer :
   pub journal : new ≡ made
   pub reply_is : reply ≡ answered_at made answer
 
-pub data Step (old : List JournalEntry) (payload : List ℕ) (used : Used) (reply : PlainReply) (new : List JournalEntry) : Type 0 where
+pub data PlainStep (old : List JournalEntry) (payload : List ℕ) (used : Used) (reply : PlainReply) (new : List JournalEntry) : Type 0 where
   -- the payload is no call
-  unread : (place : ℕ) → WrongAt payload place → used ≡ used_nothing → Refuses old new reply (bad_request place) → Step old payload used reply new
+  unread : (place : ℕ) → WrongAt plain_kinds payload place → used ≡ used_nothing → PlainRefuses old new reply (bad_request place) → PlainStep old payload used reply new
   -- Start: no random bytes; the drawn id is that of a begun command; the command is begun
   start_failed : (command cwd session hostname : List ℕ) (now : ℕ) → SpellsCall (start_call command cwd session hostname) payload
-      → used ≡ read_and_failed now → Refuses old new reply random_fault → Step old payload used reply new
+      → used ≡ read_and_failed now → PlainRefuses old new reply random_fault → PlainStep old payload used reply new
   start_taken : (command cwd session hostname : List ℕ) (now : ℕ) (drawn : List ℕ) → SpellsCall (start_call command cwd session hostname) payload → length drawn ≡ 10
-      → used ≡ read_and_drew now drawn → was_begun (made_id now drawn) old ≡ true → Refuses old new reply (id_taken (made_id now drawn)) → Step old payload used reply new
+      → used ≡ read_and_drew now drawn → was_begun (made_id now drawn) old ≡ true → PlainRefuses old new reply (id_taken (made_id now drawn)) → PlainStep old payload used reply new
   start_done : (command cwd session hostname : List ℕ) (now : ℕ) (drawn : List ℕ) → SpellsCall (start_call command cwd session hostname) payload → length drawn ≡ 10
       → used ≡ read_and_drew now drawn → was_begun (made_id now drawn) old ≡ false
       → Answers (old ++ begun (record { id = made_id now drawn; timestamp = now; command = command; cwd = cwd; session = session; hostname = hostname }) ∷ []) new reply (began_id (made_id now drawn))
-      → Step old payload used reply new
+      → PlainStep old payload used reply new
   start_short : (command cwd session hostname : List ℕ) (now : ℕ) (drawn : List ℕ) → SpellsCall (start_call command cwd session hostname) payload → length drawn ≡ 10
-      → used ≡ read_and_drew now drawn → was_begun (made_id now drawn) old ≡ false → Refuses old new reply no_memory → Step old payload used reply new
+      → used ≡ read_and_drew now drawn → was_begun (made_id now drawn) old ≡ false → PlainRefuses old new reply no_memory → PlainStep old payload used reply new
   -- End: no begun command has the id and hasn't ended; the command has ended
   end_unbegun : (id : ℕ) (duration exit : ℤ) (now : ℕ) → SpellsCall (end_call id duration exit) payload → used ≡ read_clock now
-      → was_begun id old ≡ false → Refuses old new reply (unknown_id id) → Step old payload used reply new
+      → was_begun id old ≡ false → PlainRefuses old new reply (unknown_id id) → PlainStep old payload used reply new
   end_again : (id : ℕ) (duration exit : ℤ) (now : ℕ) → SpellsCall (end_call id duration exit) payload → used ≡ read_clock now
-      → has_ended id old ≡ true → Refuses old new reply (unknown_id id) → Step old payload used reply new
+      → has_ended id old ≡ true → PlainRefuses old new reply (unknown_id id) → PlainStep old payload used reply new
   end_done : (id : ℕ) (duration exit : ℤ) (now : ℕ) (s : StartedRecord) → SpellsCall (end_call id duration exit) payload → used ≡ read_clock now
       → Contains (begun_in old) s → s.id ≡ id → has_ended id old ≡ false
-      → Answers (old ++ ended (finished s duration exit) ∷ []) new reply (stored_index (length (ended_in old))) → Step old payload used reply new
+      → Answers (old ++ ended (finished s duration exit) ∷ []) new reply (stored_index (length (ended_in old))) → PlainStep old payload used reply new
   end_short : (id : ℕ) (duration exit : ℤ) (now : ℕ) → SpellsCall (end_call id duration exit) payload → used ≡ read_clock now
-      → was_begun id old ≡ true → has_ended id old ≡ false → Refuses old new reply no_memory → Step old payload used reply new
+      → was_begun id old ≡ true → has_ended id old ≡ false → PlainRefuses old new reply no_memory → PlainStep old payload used reply new
   -- Search
   searched : (query : SearchQuery) (hits : List HistoryRecord) → SpellsCall (search_call query) payload → used ≡ used_nothing
-      → IsAnswer query (ended_in old) hits → Answers old new reply (hit_list hits) → Step old payload used reply new
-  search_short : (query : SearchQuery) → SpellsCall (search_call query) payload → used ≡ used_nothing → Refuses old new reply no_memory → Step old payload used reply new
+      → IsAnswer query (ended_in old) hits → Answers old new reply (hit_list hits) → PlainStep old payload used reply new
+  search_short : (query : SearchQuery) → SpellsCall (search_call query) payload → used ≡ used_nothing → PlainRefuses old new reply no_memory → PlainStep old payload used reply new

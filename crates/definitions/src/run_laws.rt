@@ -5,9 +5,9 @@ ghost use Rattle.std.specs.List.{All};
 ghost use Rattle.definitions.specs.Spelling.{IsBytes};
 ghost use Rattle.definitions.specs.Calls.{SearchQuery};
 ghost use Rattle.definitions.specs.Journal.{HistoryRecord, JournalEntry, HaveOwnIds, FitsJournal, SoundJournal};
-ghost use Rattle.definitions.specs.Replies.{PlainReply, no_memory, is_refusal};
+ghost use Rattle.definitions.specs.Replies.{PlainReply, no_memory, is_plain_refusal};
 ghost use Rattle.definitions.specs.Search.{IsAnswer};
-ghost use Rattle.definitions.specs.Step.{Used, UsedFits, then_used, Step};
+ghost use Rattle.definitions.specs.Step.{Used, UsedFits, then_used, PlainStep};
 ghost use Rattle.definitions.specs.Runs.{Run, IsSplitRun, random_faults};
 
 /// Two runs, the second from where the first ended, are a run over both lists, with the replies of both. And a run over a
@@ -26,7 +26,7 @@ pub fn a_run_answers_each_payload()
 /// At a sound journal a payload has one reply and leaves one journal, given what was read of the clock and drawn, unless it
 /// is answered by want of memory.
 pub fn a_step_has_one_outcome()
-    ensures { (old : List JournalEntry) (payload : List ℕ) (used : Used) (a b : PlainReply) (x y : List JournalEntry) → IsBytes payload → SoundJournal old → a.answer ≢ no_memory → b.answer ≢ no_memory → Step old payload used a x → Step old payload used b y → (a ≡ b) × (x ≡ y) }
+    ensures { (old : List JournalEntry) (payload : List ℕ) (used : Used) (a b : PlainReply) (x y : List JournalEntry) → IsBytes payload → SoundJournal old → a.answer ≢ no_memory → b.answer ≢ no_memory → PlainStep old payload used a x → PlainStep old payload used b y → (a ≡ b) × (x ≡ y) }
 {}
 
 /// The journal that a run leaves is determined by the one that it found, the payloads, the replies, and what was read of
@@ -44,8 +44,8 @@ pub fn a_run_leaves_a_sound_journal()
     ensures sound { (old : List JournalEntry) (payloads : List (List ℕ)) (used : Used) (replies : List PlainReply) (new : List JournalEntry) → SoundJournal old → Run old payloads used replies new → SoundJournal new }
     ensures fits { (old : List JournalEntry) (payloads : List (List ℕ)) (used : Used) (replies : List PlainReply) (new : List JournalEntry) → UsedFits used → FitsJournal old → Run old payloads used replies new → FitsJournal new }
     ensures empty { SoundJournal [] }
-    ensures refused { (old : List JournalEntry) (payload : List ℕ) (used : Used) (reply : PlainReply) (new : List JournalEntry) → Step old payload used reply new → is_refusal reply.answer ≡ true → new ≡ old }
-    ensures front { (old : List JournalEntry) (payload : List ℕ) (used : Used) (reply : PlainReply) (new : List JournalEntry) → Step old payload used reply new → reply.front ≡ length new }
+    ensures refused { (old : List JournalEntry) (payload : List ℕ) (used : Used) (reply : PlainReply) (new : List JournalEntry) → PlainStep old payload used reply new → is_plain_refusal reply.answer ≡ true → new ≡ old }
+    ensures front { (old : List JournalEntry) (payload : List ℕ) (used : Used) (reply : PlainReply) (new : List JournalEntry) → PlainStep old payload used reply new → reply.front ≡ length new }
 {}
 
 /// Over commands with ids of their own a query has at most one answer.

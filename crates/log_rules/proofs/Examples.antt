@@ -7,10 +7,11 @@ use Rattle.std.proofs.lemmas.Str.{IsUtf8-from_ascii}
 use Rattle.std.proofs.lemmas.Str.Ascii.{IsAscii-nil}
 use Rattle.std.proofs.lemmas.Option.{none-some}
 use Rattle.std.proofs.lemmas.Bool.{true≢false}
+use Rattle.definitions.specs.Spelling.{TextFits}
 use Rattle.record_rules.specs.Records.{Event, Started, Local, Taken}
 use Rattle.record_rules.specs.Journal.{events_of, Sound}
 use Rattle.record_rules.proofs.Soundness.{empty_sound, Sound-push}
-use Rattle.log_rules.specs.Body.{IsText, HasEventBytes, IsBatch, event_bytes, body_bytes}
+use Rattle.log_rules.specs.Body.{HasEventBytes, IsBatch, event_bytes, body_bytes}
 use Rattle.log_rules.specs.Log.{batch_bytes, header_bytes, IsLogFront, StandsFor, DamagedAt, HoldsGoodBatch, payload_bytes}
 use Rattle.log_rules.specs.Examples.{worked_id, started_ls, ls_entry, started_empty, ls_log, WorkedBodies, WorkedNewLog, WorkedFirstBatch}
 use Rattle.log_rules.proofs.Fields.{number_4, body_apart}
@@ -22,17 +23,17 @@ ascii_cons : (byte : ℕ) (bytes : List ℕ) → byte < 128 → IsAscii bytes �
 ascii_cons byte bytes below others zero = below
 ascii_cons byte bytes below others (suc k) = others k
 
-ls_text : IsText (codes "ls")
-ls_text = record { utf8 = IsUtf8-from_ascii (codes "ls") (ascii_cons 0x6c (0x73 ∷ []) (omega arith) (ascii_cons 0x73 [] (omega arith) IsAscii-nil)); fits = omega arith }
+ls_text : TextFits (codes "ls")
+ls_text = record { utf8 = IsUtf8-from_ascii (codes "ls") (ascii_cons 0x6c (0x73 ∷ []) (omega arith) (ascii_cons 0x73 [] (omega arith) IsAscii-nil)); short = omega arith }
 
-root_text : IsText (codes "/")
-root_text = record { utf8 = IsUtf8-from_ascii (codes "/") (ascii_cons 0x2f [] (omega arith) IsAscii-nil); fits = omega arith }
+root_text : TextFits (codes "/")
+root_text = record { utf8 = IsUtf8-from_ascii (codes "/") (ascii_cons 0x2f [] (omega arith) IsAscii-nil); short = omega arith }
 
-session_text : IsText (codes "s1")
-session_text = record { utf8 = IsUtf8-from_ascii (codes "s1") (ascii_cons 0x73 (0x31 ∷ []) (omega arith) (ascii_cons 0x31 [] (omega arith) IsAscii-nil)); fits = omega arith }
+session_text : TextFits (codes "s1")
+session_text = record { utf8 = IsUtf8-from_ascii (codes "s1") (ascii_cons 0x73 (0x31 ∷ []) (omega arith) (ascii_cons 0x31 [] (omega arith) IsAscii-nil)); short = omega arith }
 
-hostname_text : IsText (codes "h:u")
-hostname_text = record { utf8 = IsUtf8-from_ascii (codes "h:u") (ascii_cons 0x68 (0x3a ∷ 0x75 ∷ []) (omega arith) (ascii_cons 0x3a (0x75 ∷ []) (omega arith) (ascii_cons 0x75 [] (omega arith) IsAscii-nil))); fits = omega arith }
+hostname_text : TextFits (codes "h:u")
+hostname_text = record { utf8 = IsUtf8-from_ascii (codes "h:u") (ascii_cons 0x68 (0x3a ∷ 0x75 ∷ []) (omega arith) (ascii_cons 0x3a (0x75 ∷ []) (omega arith) (ascii_cons 0x75 [] (omega arith) IsAscii-nil))); short = omega arith }
 
 ls_batch : IsBatch (Started started_ls ∷ [])
 ls_batch = record {
@@ -100,8 +101,8 @@ not_twice good =
     let twice : events_of good.sound.journal ≡ Started started_ls ∷ Started started_ls ∷ [] = good.sound.events_are ∙ ap (λ (events : List Event). Started started_ls ∷ events) (sym same.0) in
     good.sound.sound.started_apart 0 1 started_ls started_ls (omega arith) (ap (λ (events : List Event). slice_get events 0) twice) (ap (λ (events : List Event). slice_get events 1) twice) refl
 
-empty_text : IsText []
-empty_text = record { utf8 = IsUtf8-from_ascii [] IsAscii-nil; fits = omega arith }
+empty_text : TextFits []
+empty_text = record { utf8 = IsUtf8-from_ascii [] IsAscii-nil; short = omega arith }
 
 empty_has : HasEventBytes started_empty
 empty_has = record { id = omega arith; timestamp = omega arith; command = empty_text; cwd = empty_text; session = empty_text; hostname = empty_text }

@@ -4,9 +4,9 @@ use Rattle.std.specs.Prelude.{codes}
 use Rattle.std.proofs.lemmas.Str.{IsUtf8-from_is_utf8}
 use Rattle.std.specs.Str.{is_utf8, chars}
 use Rattle.definitions.specs.Ids.{id_text}
-use Rattle.definitions.specs.Spelling.{int_64}
+use Rattle.definitions.specs.Spelling.{int_64, TextFits}
 use Rattle.payload_rules.specs.Items.{bin_8, bin_32, an_integer, a_text, an_array, a_bin}
-use Rattle.payload_rules.specs.Payloads.{Payload, HistoryCreate, KvSet, tag_of, SpellsPayload, PayloadOf, HistoryFits, HistoryTextsFit, TextFits, written_history, written_payload}
+use Rattle.payload_rules.specs.Payloads.{Payload, HistoryCreate, KvSet, tag_of, SpellsPayload, PayloadOf, HistoryFits, HistoryTextsFit, written_history, written_payload}
 use Rattle.payload_rules.specs.Examples.{ls, ls_payload, WorkedCreation, WorkedItems, WorkedPayloads}
 use Rattle.payload_rules.proofs.Items.{first_items}
 use Rattle.payload_rules.proofs.Payloads.{payloads_apart}

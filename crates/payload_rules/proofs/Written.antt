@@ -5,11 +5,11 @@ use Rattle.std.specs.Int.{w64}
 use Rattle.std.specs.Prelude.{FitsSigned}
 use Rattle.definitions.specs.Journal.{HistoryRecord}
 use Rattle.definitions.specs.Ids.{id_text}
-use Rattle.definitions.specs.Spelling.{uint_8, uint_16, uint_64, IsSpellable, written_integer, written_text, written_array}
+use Rattle.definitions.specs.Spelling.{uint_8, uint_16, uint_64, IsSpellable, TextFits, written_integer, written_text, written_array}
 use Rattle.definitions.proofs.Ids.{id_text-length, id_text-utf8}
 use Rattle.definitions.proofs.Spelling.{written_integer_spells, written_text_spells, written_array_spells}
 use Rattle.payload_rules.specs.Items.{bin_limit, shortest_bin, written_bin, Item, an_integer, a_text, an_array, a_bin, SpellsItem, SpellsItems}
-use Rattle.payload_rules.specs.Payloads.{Payload, HistoryCreate, HistoryDelete, KvSet, AliasSet, AliasDelete, tag_of, payload_version, TimeFits, HistoryFits, PayloadFits, time_item, history_items, SpellsPayload, PayloadOf, written_u8, written_u16, written_u64, written_time, written_history, written_payload, TextFits, HistoryTextsFit, TextsFit}
+use Rattle.payload_rules.specs.Payloads.{Payload, HistoryCreate, HistoryDelete, KvSet, AliasSet, AliasDelete, tag_of, payload_version, TimeFits, HistoryFits, PayloadFits, time_item, history_items, SpellsPayload, PayloadOf, written_u8, written_u16, written_u64, written_time, written_history, written_payload, HistoryTextsFit, TextsFit}
 
 -- ---- items
 

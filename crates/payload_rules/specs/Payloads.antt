@@ -2,7 +2,7 @@
 use Rattle.std.specs.Prelude.{◌≡◌, ℕ, ◌<◌, ◌^◌, pos, FitsSigned, List, [], ◌∷◌, ◌++◌, length, codes, Option, Some, None}
 use Rattle.std.specs.Str.{IsUtf8}
 use Rattle.std.specs.Int.{w8, w16, w64}
-use Rattle.definitions.specs.Spelling.{marked, written_integer, written_text, written_array}
+use Rattle.definitions.specs.Spelling.{marked, TextFits, written_integer, written_text, written_array}
 use Rattle.definitions.specs.Ids.{id_text}
 use Rattle.definitions.specs.Journal.{HistoryRecord}
 use Rattle.payload_rules.specs.Items.{Item, an_integer, a_text, an_array, a_bin, a_nil, SpellsItems, written_bin, written_nil}
@@ -120,11 +120,6 @@ written_payload (HistoryDelete id) = written_u8 1 ++ written_text (id_text id)
 written_payload (KvSet namespace key value) = written_array 3 ++ (written_text namespace ++ (written_text key ++ written_text value))
 written_payload (AliasSet name value) = written_u8 0 ++ (written_array 2 ++ (written_text name ++ written_text value))
 written_payload (AliasDelete name) = written_u8 1 ++ (written_array 1 ++ written_text name)
-
--- a text that can be written
-pub record TextFits (text : List ℕ) : Type 0 where
-  pub utf8 : IsUtf8 text
-  pub short : length text < 2 ^ 32
 
 pub record HistoryTextsFit (h : HistoryRecord) : Type 0 where
   pub command : TextFits h.command

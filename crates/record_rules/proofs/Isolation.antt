@@ -5,7 +5,7 @@ use Rattle.record_rules.specs.Limits.{most_page_records, most_page_weight}
 use Rattle.record_rules.specs.Records.{Entry}
 use Rattle.record_rules.specs.Journal.{owned_by, own, events_of, own_events, counts_of, records_of, in_place}
 use Rattle.record_rules.specs.Growth.{grow, grown, growth_of}
-use Rattle.record_rules.specs.Answers.{OwnerRequest, OwnerReply, AskStatus, AskPage, SendPage, StatusIs, PageIs, front_within, growth_reply, reply_to, journal_after, Asked, Told, replies, asked_by, told_to}
+use Rattle.record_rules.specs.Answers.{OwnerRequest, OwnerReply, AskStatus, AskPage, SendPage, StatusIs, PageIs, front_within, growth_reply, reply_to, journal_after, OwnerAsked, OwnerTold, replies, asked_by, told_to}
 use Rattle.record_rules.proofs.Owned.{own_events_grown_other, own_events_grown_same}
 
 pub replies_alike : (owner : ℕ) (request : OwnerRequest) (journal like : List Entry) → own_events journal owner ≡ own_events like owner → reply_to journal owner request ≡ reply_to like owner request
@@ -13,7 +13,7 @@ replies_alike owner AskStatus journal like same = ap (λ owned. StatusIs (counts
 replies_alike owner (AskPage host tag start count) journal like same = ap (λ owned. PageIs (front_within most_page_weight (take (min count most_page_records) (drop start (filter (in_place host tag) (records_of owned)))))) same
 replies_alike owner (SendPage caller records) journal like same = ap (λ owned. growth_reply (growth_of caller owner owned records)) same
 
-abbrev told_first : ℕ → OwnerReply → List Told → List Told
+abbrev told_first : ℕ → OwnerReply → List OwnerTold → List OwnerTold
 told_first owner reply later = record { owner = owner; reply = reply } ∷ later
 
 -- the owner's own request leaves the same to it in both
@@ -28,7 +28,7 @@ other_request_leaves owner other AskStatus journal differ = refl
 other_request_leaves owner other (AskPage host tag start count) journal differ = refl
 other_request_leaves owner other (SendPage caller records) journal differ = own_events_grown_other journal caller owner other records differ
 
-pub replies_alone : (owner : ℕ) (requests : List Asked) (journal like : List Entry) → own_events journal owner ≡ own_events like owner → told_to owner (replies journal requests) ≡ replies like (asked_by owner requests)
+pub replies_alone : (owner : ℕ) (requests : List OwnerAsked) (journal like : List Entry) → own_events journal owner ≡ own_events like owner → told_to owner (replies journal requests) ≡ replies like (asked_by owner requests)
 replies_alone owner [] journal like same = refl
 replies_alone owner (asked ∷ requests) journal like same =
     elim (cases_eq asked.owner owner) [
@@ -51,5 +51,5 @@ filter_again p (entry ∷ entries) =
       | inr dropped ↦ rw dropped (filter_again p entries)
     ]
 
-pub replies_as_alone : (owner : ℕ) (requests : List Asked) (journal : List Entry) → told_to owner (replies journal requests) ≡ replies (own journal owner) (asked_by owner requests)
+pub replies_as_alone : (owner : ℕ) (requests : List OwnerAsked) (journal : List Entry) → told_to owner (replies journal requests) ≡ replies (own journal owner) (asked_by owner requests)
 replies_as_alone owner requests journal = replies_alone owner requests journal (own journal owner) (ap events_of (sym (filter_again (owned_by owner) journal)))

@@ -51,22 +51,22 @@ journal_after journal owner (AskPage host tag start count) = journal
 journal_after journal owner (SendPage caller records) = grown journal (grow journal caller owner records)
 
 -- a request with the owner who makes it, and a reply with the owner to whom it goes
-pub record Asked : Type 0 where
+pub record OwnerAsked : Type 0 where
   pub owner : ℕ
   pub request : OwnerRequest
 
-pub record Told : Type 0 where
+pub record OwnerTold : Type 0 where
   pub owner : ℕ
   pub reply : OwnerReply
 
 -- the replies to the requests of all owners, served one after the other
-abbrev pub replies : List Entry → List Asked → List Told
+abbrev pub replies : List Entry → List OwnerAsked → List OwnerTold
 replies journal [] = []
 replies journal (asked ∷ later) = record { owner = asked.owner; reply = reply_to journal asked.owner asked.request } ∷ replies (journal_after journal asked.owner asked.request) later
 
 -- the requests of one owner, and the replies to one owner, in order
-abbrev pub asked_by : ℕ → List Asked → List Asked
+abbrev pub asked_by : ℕ → List OwnerAsked → List OwnerAsked
 asked_by owner requests = filter (λ asked. asked.owner == owner) requests
 
-abbrev pub told_to : ℕ → List Told → List Told
+abbrev pub told_to : ℕ → List OwnerTold → List OwnerTold
 told_to owner replies = filter (λ told. told.owner == owner) replies

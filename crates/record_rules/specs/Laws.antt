@@ -4,7 +4,7 @@ use Rattle.record_rules.specs.Limits.{most_page_records, most_page_weight}
 use Rattle.record_rules.specs.Records.{SealedRecord, Caller, Entry, Taken, page_weight}
 use Rattle.record_rules.specs.Journal.{own, own_events, records_of, in_place, chain, IsNumbered, TotalsFit, held_of, Ascends, status, count_at, Sound, MayFollow}
 use Rattle.record_rules.specs.Growth.{PageRefusal, PageTooLong, PageForked, IsFront, Stands, GoOn, taken_entry, fresh_of, first_too_long, batch_or, grow, grown}
-use Rattle.record_rules.specs.Answers.{page, IsLongestFront, OwnerRequest, reply_to, Asked, replies, asked_by, told_to}
+use Rattle.record_rules.specs.Answers.{page, IsLongestFront, OwnerRequest, reply_to, OwnerAsked, replies, asked_by, told_to}
 
 -- a journal without entries is sound
 abbrev pub EmptyIsSound : Type 0
@@ -87,11 +87,11 @@ RepliesAlike = (owner : ℕ) (request : OwnerRequest) (journal like : List Entry
 
 -- among the requests of all owners each owner is told what its requests alone are told, at any journal in which it holds the same
 abbrev pub RepliesAlone : Type 0
-RepliesAlone = (owner : ℕ) (requests : List Asked) (journal like : List Entry) → own_events journal owner ≡ own_events like owner → told_to owner (replies journal requests) ≡ replies like (asked_by owner requests)
+RepliesAlone = (owner : ℕ) (requests : List OwnerAsked) (journal like : List Entry) → own_events journal owner ≡ own_events like owner → told_to owner (replies journal requests) ≡ replies like (asked_by owner requests)
 
 -- and what they alone would be told in a journal in which no one else has an entry
 abbrev pub RepliesAsAlone : Type 0
-RepliesAsAlone = (owner : ℕ) (requests : List Asked) (journal : List Entry) → told_to owner (replies journal requests) ≡ replies (own journal owner) (asked_by owner requests)
+RepliesAsAlone = (owner : ℕ) (requests : List OwnerAsked) (journal : List Entry) → told_to owner (replies journal requests) ≡ replies (own journal owner) (asked_by owner requests)
 
 -- In what follows `origin` is a whole chain of one host and tag, of which the owner's chain is a front, and the page is any slice of it.
 

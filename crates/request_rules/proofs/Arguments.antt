@@ -5,15 +5,12 @@ use Rattle.std.proofs.lemmas.Bool.{eqb-true}
 use Rattle.definitions.specs.Calls.{SearchMode, by_prefix, by_substring, mode_number, Argument, a_text, an_integer, Kind, any_text, id_digits, signed_64, from_to, start_kinds, end_kinds, IsOfKind, SpellsArguments}
 use Rattle.definitions.specs.Reading.{id_value}
 use Rattle.definitions.proofs.Ids.{id_value-id_text}
+use Rattle.definitions.proofs.Numbered.{by_test}
 use Rattle.view_rules.specs.Answers.{Scope, of_all, of_hostname, of_session, of_cwd, ScopedQuery}
 use Rattle.step_rules.specs.Calls.{most_listed, Call, start_call, end_call, delete_call, search_call, kv_set_call, kv_get_call, kv_list_call, alias_set_call, alias_delete_call, alias_list_call, status_call}
-use Rattle.request_rules.specs.Requests.{number_of, limit_kind, delete_kinds, search_kinds, one_text, two_texts, three_texts, kv_list_kinds, alias_list_kinds, no_kinds, call_kinds, scope_number, IsScopeText, unique_number, a_number, an_id, HasArguments}
+use Rattle.request_rules.specs.Requests.{request_number, limit_kind, delete_kinds, search_kinds, one_text, two_texts, three_texts, kv_list_kinds, alias_list_kinds, no_kinds, call_kinds, scope_number, IsScopeText, unique_number, a_number, an_id, HasArguments}
 
 -- ---- the kinds of a call's arguments
-
-pub by_test : {P : Type 0} (t : Bool) → (t ≡ true → P) → (t ≡ false → P) → P
-by_test true f g = f refl
-by_test false f g = g refl
 
 abbrev pub some_kinds : List Kind → Option (List Kind)
 some_kinds all = Some all
@@ -133,7 +130,7 @@ number_first low high others good s =
 -- ---- the call that arguments are of
 
 abbrev pub IsCallOf : ℕ → List Argument → Type 0
-IsCallOf c good = (call : Call) × (c ≡ number_of call) × HasArguments call good
+IsCallOf c good = (call : Call) × (c ≡ request_number call) × HasArguments call good
 
 abbrev Row : ℕ → List Kind → Type 0
 Row c kinds = (good : List Argument) → Spelled kinds good → IsCallOf c good
@@ -158,7 +155,7 @@ delete_is good s =
     let a = id_first [] good s in
     (delete_call a.0, refl, (a.4, joined good a.1 _ (an_id a.0) a.2 (no_argument a.1 a.3)))
 
-texts_are : (n : ℕ) (f : List ℕ → List ℕ → Call) → ((a b : List ℕ) → n ≡ number_of (f a b)) → ((a b : List ℕ) (good : List Argument) → good ≡ a_text a ∷ a_text b ∷ [] → HasArguments (f a b) good) → Row n two_texts
+texts_are : (n : ℕ) (f : List ℕ → List ℕ → Call) → ((a b : List ℕ) → n ≡ request_number (f a b)) → ((a b : List ℕ) (good : List Argument) → good ≡ a_text a ∷ a_text b ∷ [] → HasArguments (f a b) good) → Row n two_texts
 texts_are n f number has good s =
     let a = text_first one_text good s in
     let b = text_first [] a.1 a.3 in
@@ -316,7 +313,7 @@ unique_back true = refl
 same_search : (m m' : SearchMode) (s s' : Scope) (u u' : Bool) (text : List ℕ) (offset limit : ℕ) → m ≡ m' → s ≡ s' → u ≡ u' → search_of m s text u offset limit ≡ search_of m' s' text u' offset limit
 same_search m m' s s' u u' text offset limit e f g = rw (e, f, g) refl
 
-built_back : (call : Call) (good : List Argument) → HasArguments call good → built (number_of call) good ≡ call
+built_back : (call : Call) (good : List Argument) → HasArguments call good → built (request_number call) good ≡ call
 built_back (start_call command cwd session hostname) good h = ap (built 1) h
 built_back (end_call id duration exit) good h = ap (built 2) h.1 ∙ ap (λ (n : ℕ). end_call n duration exit) (id_value-id_text id h.0)
 built_back (delete_call id) good h = ap (built 3) h.1 ∙ ap delete_call (id_value-id_text id h.0)
@@ -332,5 +329,5 @@ built_back (alias_list_call after limit) good h = ap (built 10) h
 built_back status_call good h = ap (built 11) h
 
 -- arguments and a number are those of one call
-pub calls_one : (a b : Call) (good more : List Argument) → HasArguments a good → HasArguments b more → number_of a ≡ number_of b → good ≡ more → a ≡ b
-calls_one a b good more h k n e = sym (built_back a good h) ∙ ap (λ (x : ℕ). built x good) n ∙ ap (λ (x : List Argument). built (number_of b) x) e ∙ built_back b more k
+pub calls_one : (a b : Call) (good more : List Argument) → HasArguments a good → HasArguments b more → request_number a ≡ request_number b → good ≡ more → a ≡ b
+calls_one a b good more h k n e = sym (built_back a good h) ∙ ap (λ (x : ℕ). built x good) n ∙ ap (λ (x : List Argument). built (request_number b) x) e ∙ built_back b more k

@@ -6,12 +6,11 @@ use Rattle.std.specs.Str.{is_utf8, chars}
 use Rattle.std.proofs.lemmas.Bool.{ltb-true}
 use Rattle.definitions.specs.Spelling.{IsBytes}
 use Rattle.definitions.specs.Ids.{id_text}
-use Rattle.definitions.specs.Calls.{Argument, a_text, an_integer}
-use Rattle.definitions.specs.Reading.{array_at, integer_at, text_head_at, text_at, argument_at, arguments_at, last_arguments_at}
+use Rattle.definitions.specs.Calls.{Argument, a_text, an_integer, WrongAt}
+use Rattle.definitions.specs.Reading.{array_at, integer_at, text_head_at, text_at, argument_at, arguments_at, last_arguments_at, call_at}
 use Rattle.definitions.proofs.Items.{both_true}
 use Rattle.step_rules.specs.Calls.{Call, start_call, end_call, delete_call, search_call, kv_set_call, kv_get_call, kv_list_call, alias_set_call, alias_delete_call, alias_list_call, status_call}
-use Rattle.request_rules.specs.Requests.{number_of, a_number, an_id, search_arguments, HasArguments, SpellsRequest, WrongRequest}
-use Rattle.request_rules.specs.Reading.{request_at}
+use Rattle.request_rules.specs.Requests.{request_number, call_kinds, a_number, an_id, search_arguments, HasArguments, SpellsRequest}
 use Rattle.request_rules.specs.Examples.{ten_digits, host_search, plain_search, WorkedCalls, WorkedFaults}
 use Rattle.request_rules.proofs.Requests.{reading_call, reading_place}
 
@@ -23,106 +22,106 @@ are_bytes [] e i = omega arith
 are_bytes (b ∷ bytes) e zero = ltb-true b 256 (both_true (ltb b 256) (all_bytes bytes) e).0
 are_bytes (b ∷ bytes) e (suc i) = are_bytes bytes (both_true (ltb b 256) (all_bytes bytes) e).1 i
 
-spelled_so : (payload : List ℕ) (call : Call) (good : List Argument) → all_bytes payload ≡ true → HasArguments call good → request_at payload ≡ Ok (pos (number_of call), good) → SpellsRequest call payload
+spelled_so : (payload : List ℕ) (call : Call) (good : List Argument) → all_bytes payload ≡ true → HasArguments call good → call_at call_kinds payload ≡ Ok (pos (request_number call), good) → SpellsRequest call payload
 spelled_so payload call good are has e = (reading_call payload call (are_bytes payload are)).1 (good, has, e)
 
-wrong_there : (payload : List ℕ) (place : ℕ) → all_bytes payload ≡ true → place ≤ length payload → request_at payload ≡ Err (length payload - place) → WrongRequest payload place
+wrong_there : (payload : List ℕ) (place : ℕ) → all_bytes payload ≡ true → place ≤ length payload → call_at call_kinds payload ≡ Err (length payload - place) → WrongAt call_kinds payload place
 wrong_there payload place are le e = (reading_place payload place (are_bytes payload are)).1 (e, le)
 
 start : SpellsRequest (start_call (codes "ls") (codes "/") (codes "s1") (codes "h:u")) (0x95 ∷ 0x01 ∷ 0xa2 ∷ 0x6c ∷ 0x73 ∷ 0xa1 ∷ 0x2f ∷ 0xa2 ∷ 0x73 ∷ 0x31 ∷ 0xa3 ∷ 0x68 ∷ 0x3a ∷ 0x75 ∷ [])
-unfolding request_at last_arguments_at arguments_at argument_at array_at integer_at text_at text_head_at id_text is_utf8 chars lib.Utf8.encode
+unfolding call_at last_arguments_at arguments_at argument_at array_at integer_at text_at text_head_at id_text is_utf8 chars lib.Utf8.encode
 start = spelled_so (0x95 ∷ 0x01 ∷ 0xa2 ∷ 0x6c ∷ 0x73 ∷ 0xa1 ∷ 0x2f ∷ 0xa2 ∷ 0x73 ∷ 0x31 ∷ 0xa3 ∷ 0x68 ∷ 0x3a ∷ 0x75 ∷ []) (start_call (codes "ls") (codes "/") (codes "s1") (codes "h:u")) (a_text (codes "ls") ∷ a_text (codes "/") ∷ a_text (codes "s1") ∷ a_text (codes "h:u") ∷ []) refl refl refl
 
 end : SpellsRequest (end_call 10 (pos 1000) (negsuc 0)) (0x94 ∷ 0x02 ∷ 0xd9 ∷ 0x20 ∷ (ten_digits ++ 0xcd ∷ 0x03 ∷ 0xe8 ∷ 0xff ∷ []))
-unfolding request_at last_arguments_at arguments_at argument_at array_at integer_at text_at text_head_at id_text is_utf8 chars lib.Utf8.encode
+unfolding call_at last_arguments_at arguments_at argument_at array_at integer_at text_at text_head_at id_text is_utf8 chars lib.Utf8.encode
 end = spelled_so (0x94 ∷ 0x02 ∷ 0xd9 ∷ 0x20 ∷ (ten_digits ++ 0xcd ∷ 0x03 ∷ 0xe8 ∷ 0xff ∷ [])) (end_call 10 (pos 1000) (negsuc 0)) (an_id 10 ∷ an_integer (pos 1000) ∷ an_integer (negsuc 0) ∷ []) refl (omega arith, refl) refl
 
 delete : SpellsRequest (delete_call 10) (0x92 ∷ 0x03 ∷ 0xd9 ∷ 0x20 ∷ ten_digits)
-unfolding request_at last_arguments_at arguments_at argument_at array_at integer_at text_at text_head_at id_text is_utf8 chars lib.Utf8.encode
+unfolding call_at last_arguments_at arguments_at argument_at array_at integer_at text_at text_head_at id_text is_utf8 chars lib.Utf8.encode
 delete = spelled_so (0x92 ∷ 0x03 ∷ 0xd9 ∷ 0x20 ∷ ten_digits) (delete_call 10) (an_id 10 ∷ []) refl (omega arith, refl) refl
 
 search : SpellsRequest (search_call host_search) (0x98 ∷ 0x04 ∷ 0x01 ∷ 0x01 ∷ 0xa3 ∷ 0x68 ∷ 0x3a ∷ 0x75 ∷ 0xa1 ∷ 0x6c ∷ 0x01 ∷ 0x02 ∷ 0x03 ∷ [])
-unfolding request_at last_arguments_at arguments_at argument_at array_at integer_at text_at text_head_at id_text is_utf8 chars lib.Utf8.encode
+unfolding call_at last_arguments_at arguments_at argument_at array_at integer_at text_at text_head_at id_text is_utf8 chars lib.Utf8.encode
 search = spelled_so (0x98 ∷ 0x04 ∷ 0x01 ∷ 0x01 ∷ 0xa3 ∷ 0x68 ∷ 0x3a ∷ 0x75 ∷ 0xa1 ∷ 0x6c ∷ 0x01 ∷ 0x02 ∷ 0x03 ∷ []) (search_call host_search) (search_arguments host_search (codes "h:u")) refl (codes "h:u", refl, refl) refl
 
 search_of_all : SpellsRequest (search_call plain_search) (0x98 ∷ 0x04 ∷ 0x00 ∷ 0x00 ∷ 0xa1 ∷ 0x78 ∷ 0xa1 ∷ 0x6c ∷ 0x00 ∷ 0x00 ∷ 0x01 ∷ [])
-unfolding request_at last_arguments_at arguments_at argument_at array_at integer_at text_at text_head_at id_text is_utf8 chars lib.Utf8.encode
+unfolding call_at last_arguments_at arguments_at argument_at array_at integer_at text_at text_head_at id_text is_utf8 chars lib.Utf8.encode
 search_of_all = spelled_so (0x98 ∷ 0x04 ∷ 0x00 ∷ 0x00 ∷ 0xa1 ∷ 0x78 ∷ 0xa1 ∷ 0x6c ∷ 0x00 ∷ 0x00 ∷ 0x01 ∷ []) (search_call plain_search) (search_arguments plain_search (codes "x")) refl (codes "x", tt, refl) refl
 
 kv_set : SpellsRequest (kv_set_call (codes "n") (codes "k") (codes "v")) (0x94 ∷ 0x05 ∷ 0xa1 ∷ 0x6e ∷ 0xa1 ∷ 0x6b ∷ 0xa1 ∷ 0x76 ∷ [])
-unfolding request_at last_arguments_at arguments_at argument_at array_at integer_at text_at text_head_at id_text is_utf8 chars lib.Utf8.encode
+unfolding call_at last_arguments_at arguments_at argument_at array_at integer_at text_at text_head_at id_text is_utf8 chars lib.Utf8.encode
 kv_set = spelled_so (0x94 ∷ 0x05 ∷ 0xa1 ∷ 0x6e ∷ 0xa1 ∷ 0x6b ∷ 0xa1 ∷ 0x76 ∷ []) (kv_set_call (codes "n") (codes "k") (codes "v")) (a_text (codes "n") ∷ a_text (codes "k") ∷ a_text (codes "v") ∷ []) refl refl refl
 
 kv_get : SpellsRequest (kv_get_call (codes "n") (codes "k")) (0x93 ∷ 0x06 ∷ 0xa1 ∷ 0x6e ∷ 0xa1 ∷ 0x6b ∷ [])
-unfolding request_at last_arguments_at arguments_at argument_at array_at integer_at text_at text_head_at id_text is_utf8 chars lib.Utf8.encode
+unfolding call_at last_arguments_at arguments_at argument_at array_at integer_at text_at text_head_at id_text is_utf8 chars lib.Utf8.encode
 kv_get = spelled_so (0x93 ∷ 0x06 ∷ 0xa1 ∷ 0x6e ∷ 0xa1 ∷ 0x6b ∷ []) (kv_get_call (codes "n") (codes "k")) (a_text (codes "n") ∷ a_text (codes "k") ∷ []) refl refl refl
 
 kv_list : SpellsRequest (kv_list_call (codes "n") (codes "k") 1000) (0x94 ∷ 0x07 ∷ 0xa1 ∷ 0x6e ∷ 0xa1 ∷ 0x6b ∷ 0xcd ∷ 0x03 ∷ 0xe8 ∷ [])
-unfolding request_at last_arguments_at arguments_at argument_at array_at integer_at text_at text_head_at id_text is_utf8 chars lib.Utf8.encode
+unfolding call_at last_arguments_at arguments_at argument_at array_at integer_at text_at text_head_at id_text is_utf8 chars lib.Utf8.encode
 kv_list = spelled_so (0x94 ∷ 0x07 ∷ 0xa1 ∷ 0x6e ∷ 0xa1 ∷ 0x6b ∷ 0xcd ∷ 0x03 ∷ 0xe8 ∷ []) (kv_list_call (codes "n") (codes "k") 1000) (a_text (codes "n") ∷ a_text (codes "k") ∷ a_number 1000 ∷ []) refl refl refl
 
 alias_set : SpellsRequest (alias_set_call (codes "n") (codes "v")) (0x93 ∷ 0x08 ∷ 0xa1 ∷ 0x6e ∷ 0xa1 ∷ 0x76 ∷ [])
-unfolding request_at last_arguments_at arguments_at argument_at array_at integer_at text_at text_head_at id_text is_utf8 chars lib.Utf8.encode
+unfolding call_at last_arguments_at arguments_at argument_at array_at integer_at text_at text_head_at id_text is_utf8 chars lib.Utf8.encode
 alias_set = spelled_so (0x93 ∷ 0x08 ∷ 0xa1 ∷ 0x6e ∷ 0xa1 ∷ 0x76 ∷ []) (alias_set_call (codes "n") (codes "v")) (a_text (codes "n") ∷ a_text (codes "v") ∷ []) refl refl refl
 
 alias_delete : SpellsRequest (alias_delete_call (codes "n")) (0x92 ∷ 0x09 ∷ 0xa1 ∷ 0x6e ∷ [])
-unfolding request_at last_arguments_at arguments_at argument_at array_at integer_at text_at text_head_at id_text is_utf8 chars lib.Utf8.encode
+unfolding call_at last_arguments_at arguments_at argument_at array_at integer_at text_at text_head_at id_text is_utf8 chars lib.Utf8.encode
 alias_delete = spelled_so (0x92 ∷ 0x09 ∷ 0xa1 ∷ 0x6e ∷ []) (alias_delete_call (codes "n")) (a_text (codes "n") ∷ []) refl refl refl
 
 alias_list : SpellsRequest (alias_list_call (codes "n") 1) (0x93 ∷ 0x0a ∷ 0xa1 ∷ 0x6e ∷ 0xcc ∷ 0x01 ∷ [])
-unfolding request_at last_arguments_at arguments_at argument_at array_at integer_at text_at text_head_at id_text is_utf8 chars lib.Utf8.encode
+unfolding call_at last_arguments_at arguments_at argument_at array_at integer_at text_at text_head_at id_text is_utf8 chars lib.Utf8.encode
 alias_list = spelled_so (0x93 ∷ 0x0a ∷ 0xa1 ∷ 0x6e ∷ 0xcc ∷ 0x01 ∷ []) (alias_list_call (codes "n") 1) (a_text (codes "n") ∷ a_number 1 ∷ []) refl refl refl
 
 status : SpellsRequest status_call (0x91 ∷ 0x0b ∷ [])
-unfolding request_at last_arguments_at arguments_at argument_at array_at integer_at text_at text_head_at id_text is_utf8 chars lib.Utf8.encode
+unfolding call_at last_arguments_at arguments_at argument_at array_at integer_at text_at text_head_at id_text is_utf8 chars lib.Utf8.encode
 status = spelled_so (0x91 ∷ 0x0b ∷ []) status_call ([]) refl refl refl
 
-nothing : WrongRequest [] 0
-unfolding request_at last_arguments_at arguments_at argument_at array_at integer_at text_at text_head_at id_text is_utf8 chars lib.Utf8.encode
+nothing : WrongAt call_kinds [] 0
+unfolding call_at last_arguments_at arguments_at argument_at array_at integer_at text_at text_head_at id_text is_utf8 chars lib.Utf8.encode
 nothing = wrong_there [] 0 refl (omega arith) refl
 
-no_items : WrongRequest (0x90 ∷ []) 0
-unfolding request_at last_arguments_at arguments_at argument_at array_at integer_at text_at text_head_at id_text is_utf8 chars lib.Utf8.encode
+no_items : WrongAt call_kinds (0x90 ∷ []) 0
+unfolding call_at last_arguments_at arguments_at argument_at array_at integer_at text_at text_head_at id_text is_utf8 chars lib.Utf8.encode
 no_items = wrong_there (0x90 ∷ []) 0 refl (omega arith) refl
 
-nine_items : WrongRequest (0x99 ∷ 0x0b ∷ []) 0
-unfolding request_at last_arguments_at arguments_at argument_at array_at integer_at text_at text_head_at id_text is_utf8 chars lib.Utf8.encode
+nine_items : WrongAt call_kinds (0x99 ∷ 0x0b ∷ []) 0
+unfolding call_at last_arguments_at arguments_at argument_at array_at integer_at text_at text_head_at id_text is_utf8 chars lib.Utf8.encode
 nine_items = wrong_there (0x99 ∷ 0x0b ∷ []) 0 refl (omega arith) refl
 
-number : WrongRequest (0x95 ∷ 0x0c ∷ []) 1
-unfolding request_at last_arguments_at arguments_at argument_at array_at integer_at text_at text_head_at id_text is_utf8 chars lib.Utf8.encode
+number : WrongAt call_kinds (0x95 ∷ 0x0c ∷ []) 1
+unfolding call_at last_arguments_at arguments_at argument_at array_at integer_at text_at text_head_at id_text is_utf8 chars lib.Utf8.encode
 number = wrong_there (0x95 ∷ 0x0c ∷ []) 1 refl (omega arith) refl
 
-items : WrongRequest (0x92 ∷ 0x0b ∷ 0x00 ∷ []) 0
-unfolding request_at last_arguments_at arguments_at argument_at array_at integer_at text_at text_head_at id_text is_utf8 chars lib.Utf8.encode
+items : WrongAt call_kinds (0x92 ∷ 0x0b ∷ 0x00 ∷ []) 0
+unfolding call_at last_arguments_at arguments_at argument_at array_at integer_at text_at text_head_at id_text is_utf8 chars lib.Utf8.encode
 items = wrong_there (0x92 ∷ 0x0b ∷ 0x00 ∷ []) 0 refl (omega arith) refl
 
-mode : WrongRequest (0x98 ∷ 0x04 ∷ 0x02 ∷ 0x00 ∷ 0xa0 ∷ 0xa0 ∷ 0x00 ∷ 0x00 ∷ 0x01 ∷ []) 2
-unfolding request_at last_arguments_at arguments_at argument_at array_at integer_at text_at text_head_at id_text is_utf8 chars lib.Utf8.encode
+mode : WrongAt call_kinds (0x98 ∷ 0x04 ∷ 0x02 ∷ 0x00 ∷ 0xa0 ∷ 0xa0 ∷ 0x00 ∷ 0x00 ∷ 0x01 ∷ []) 2
+unfolding call_at last_arguments_at arguments_at argument_at array_at integer_at text_at text_head_at id_text is_utf8 chars lib.Utf8.encode
 mode = wrong_there (0x98 ∷ 0x04 ∷ 0x02 ∷ 0x00 ∷ 0xa0 ∷ 0xa0 ∷ 0x00 ∷ 0x00 ∷ 0x01 ∷ []) 2 refl (omega arith) refl
 
-filter : WrongRequest (0x98 ∷ 0x04 ∷ 0x00 ∷ 0x04 ∷ 0xa0 ∷ 0xa0 ∷ 0x00 ∷ 0x00 ∷ 0x01 ∷ []) 3
-unfolding request_at last_arguments_at arguments_at argument_at array_at integer_at text_at text_head_at id_text is_utf8 chars lib.Utf8.encode
+filter : WrongAt call_kinds (0x98 ∷ 0x04 ∷ 0x00 ∷ 0x04 ∷ 0xa0 ∷ 0xa0 ∷ 0x00 ∷ 0x00 ∷ 0x01 ∷ []) 3
+unfolding call_at last_arguments_at arguments_at argument_at array_at integer_at text_at text_head_at id_text is_utf8 chars lib.Utf8.encode
 filter = wrong_there (0x98 ∷ 0x04 ∷ 0x00 ∷ 0x04 ∷ 0xa0 ∷ 0xa0 ∷ 0x00 ∷ 0x00 ∷ 0x01 ∷ []) 3 refl (omega arith) refl
 
-unique : WrongRequest (0x98 ∷ 0x04 ∷ 0x00 ∷ 0x00 ∷ 0xa0 ∷ 0xa0 ∷ 0x02 ∷ 0x00 ∷ 0x01 ∷ []) 6
-unfolding request_at last_arguments_at arguments_at argument_at array_at integer_at text_at text_head_at id_text is_utf8 chars lib.Utf8.encode
+unique : WrongAt call_kinds (0x98 ∷ 0x04 ∷ 0x00 ∷ 0x00 ∷ 0xa0 ∷ 0xa0 ∷ 0x02 ∷ 0x00 ∷ 0x01 ∷ []) 6
+unfolding call_at last_arguments_at arguments_at argument_at array_at integer_at text_at text_head_at id_text is_utf8 chars lib.Utf8.encode
 unique = wrong_there (0x98 ∷ 0x04 ∷ 0x00 ∷ 0x00 ∷ 0xa0 ∷ 0xa0 ∷ 0x02 ∷ 0x00 ∷ 0x01 ∷ []) 6 refl (omega arith) refl
 
-limit : WrongRequest (0x93 ∷ 0x0a ∷ 0xa0 ∷ 0x00 ∷ []) 3
-unfolding request_at last_arguments_at arguments_at argument_at array_at integer_at text_at text_head_at id_text is_utf8 chars lib.Utf8.encode
+limit : WrongAt call_kinds (0x93 ∷ 0x0a ∷ 0xa0 ∷ 0x00 ∷ []) 3
+unfolding call_at last_arguments_at arguments_at argument_at array_at integer_at text_at text_head_at id_text is_utf8 chars lib.Utf8.encode
 limit = wrong_there (0x93 ∷ 0x0a ∷ 0xa0 ∷ 0x00 ∷ []) 3 refl (omega arith) refl
 
-great_limit : WrongRequest (0x94 ∷ 0x07 ∷ 0xa0 ∷ 0xa0 ∷ 0xcd ∷ 0x03 ∷ 0xe9 ∷ []) 4
-unfolding request_at last_arguments_at arguments_at argument_at array_at integer_at text_at text_head_at id_text is_utf8 chars lib.Utf8.encode
+great_limit : WrongAt call_kinds (0x94 ∷ 0x07 ∷ 0xa0 ∷ 0xa0 ∷ 0xcd ∷ 0x03 ∷ 0xe9 ∷ []) 4
+unfolding call_at last_arguments_at arguments_at argument_at array_at integer_at text_at text_head_at id_text is_utf8 chars lib.Utf8.encode
 great_limit = wrong_there (0x94 ∷ 0x07 ∷ 0xa0 ∷ 0xa0 ∷ 0xcd ∷ 0x03 ∷ 0xe9 ∷ []) 4 refl (omega arith) refl
 
-cut : WrongRequest (0x93 ∷ 0x06 ∷ 0xa1 ∷ 0x6e ∷ 0xa2 ∷ 0x6b ∷ []) 4
-unfolding request_at last_arguments_at arguments_at argument_at array_at integer_at text_at text_head_at id_text is_utf8 chars lib.Utf8.encode
+cut : WrongAt call_kinds (0x93 ∷ 0x06 ∷ 0xa1 ∷ 0x6e ∷ 0xa2 ∷ 0x6b ∷ []) 4
+unfolding call_at last_arguments_at arguments_at argument_at array_at integer_at text_at text_head_at id_text is_utf8 chars lib.Utf8.encode
 cut = wrong_there (0x93 ∷ 0x06 ∷ 0xa1 ∷ 0x6e ∷ 0xa2 ∷ 0x6b ∷ []) 4 refl (omega arith) refl
 
-behind : WrongRequest (0x91 ∷ 0x0b ∷ 0x00 ∷ []) 2
-unfolding request_at last_arguments_at arguments_at argument_at array_at integer_at text_at text_head_at id_text is_utf8 chars lib.Utf8.encode
+behind : WrongAt call_kinds (0x91 ∷ 0x0b ∷ 0x00 ∷ []) 2
+unfolding call_at last_arguments_at arguments_at argument_at array_at integer_at text_at text_head_at id_text is_utf8 chars lib.Utf8.encode
 behind = wrong_there (0x91 ∷ 0x0b ∷ 0x00 ∷ []) 2 refl (omega arith) refl
 
 pub calls : WorkedCalls

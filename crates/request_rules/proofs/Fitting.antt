@@ -6,7 +6,7 @@ use Rattle.definitions.specs.Reading.{integer_at, array_at}
 use Rattle.definitions.proofs.Spelling.{integers_read, arrays_read}
 use Rattle.view_rules.specs.Answers.{Scope, of_all, of_hostname, of_session, of_cwd}
 use Rattle.step_rules.specs.Calls.{Call, start_call, end_call, delete_call, search_call, kv_set_call, kv_get_call, kv_list_call, alias_set_call, alias_delete_call, alias_list_call, status_call, scope_bytes, call_bytes, NumbersFit}
-use Rattle.request_rules.specs.Requests.{number_of, search_kinds, kv_list_kinds, alias_list_kinds, IsScopeText, a_number, an_id, search_arguments, HasArguments, SpellsRequest}
+use Rattle.request_rules.specs.Requests.{request_number, search_kinds, kv_list_kinds, alias_list_kinds, IsScopeText, a_number, an_id, search_arguments, HasArguments, SpellsRequest}
 use Rattle.request_rules.specs.Laws.{SpelledCallFits}
 use Rattle.request_rules.proofs.Arguments.{some_kinds, same_kinds, most_kinds}
 
@@ -19,22 +19,22 @@ as_spelled kinds all good other rest k e s =
 numbers_fit : (call : Call) (payload : List ℕ) → SpellsRequest call payload → NumbersFit call
 numbers_fit (start_call command cwd session hostname) payload s = tt
 numbers_fit (end_call id duration exit) payload s =
-    let k = as_spelled end_kinds s.all_kinds s.arguments (an_id id ∷ an_integer duration ∷ an_integer exit ∷ []) s.rest s.kinds_are s.has.1 s.are_arguments in
+    let k = as_spelled end_kinds s.numbered.all_kinds s.arguments (an_id id ∷ an_integer duration ∷ an_integer exit ∷ []) s.numbered.rest s.numbered.kinds_are s.has.1 s.numbered.are_arguments in
     (s.has.0, k.4.2, k.4.4.2)
 numbers_fit (delete_call id) payload s = s.has.0
 numbers_fit (search_call asked) payload s =
-    let k = as_spelled search_kinds s.all_kinds s.arguments (search_arguments asked s.has.0) s.rest s.kinds_are s.has.2 s.are_arguments in
+    let k = as_spelled search_kinds s.numbered.all_kinds s.arguments (search_arguments asked s.has.0) s.numbered.rest s.numbered.kinds_are s.has.2 s.numbered.are_arguments in
     let most = k.4.4.4.4.4.2.1 in
     (omega (arith, most), k.4.4.4.4.4.4.2)
 numbers_fit (kv_set_call namespace key value) payload s = tt
 numbers_fit (kv_get_call namespace key) payload s = tt
 numbers_fit (kv_list_call namespace after limit) payload s =
-    let k = as_spelled kv_list_kinds s.all_kinds s.arguments (a_text namespace ∷ a_text after ∷ a_number limit ∷ []) s.rest s.kinds_are s.has s.are_arguments in
+    let k = as_spelled kv_list_kinds s.numbered.all_kinds s.arguments (a_text namespace ∷ a_text after ∷ a_number limit ∷ []) s.numbered.rest s.numbered.kinds_are s.has s.numbered.are_arguments in
     k.4.4.2
 numbers_fit (alias_set_call name value) payload s = tt
 numbers_fit (alias_delete_call name) payload s = tt
 numbers_fit (alias_list_call after limit) payload s =
-    let k = as_spelled alias_list_kinds s.all_kinds s.arguments (a_text after ∷ a_number limit ∷ []) s.rest s.kinds_are s.has s.are_arguments in
+    let k = as_spelled alias_list_kinds s.numbered.all_kinds s.arguments (a_text after ∷ a_number limit ∷ []) s.numbered.rest s.numbered.kinds_are s.has s.numbered.are_arguments in
     k.4.2
 numbers_fit status_call payload s = tt
 
@@ -129,9 +129,9 @@ within total n header number rest payload few h i l short w =
 
 pub spelled_fits : SpelledCallFits
 spelled_fits payload call short s =
-    let few = most_kinds (number_of call) s.all_kinds s.kinds_are in
-    let l : length payload ≡ length s.header + (length s.number + length s.rest) = ap (λ (x : List ℕ). length x) s.are ∙ length-append s.header (s.number ++ s.rest) ∙ ap (λ (n : ℕ). length s.header + n) (length-append s.number s.rest) in
-    let weigh = arguments_weigh s.all_kinds s.arguments s.rest s.are_arguments in
-    let most = within (texts_bytes s.arguments) (length s.all_kinds) (length s.header) (length s.number) (length s.rest) (length payload) few (some_array (1 + length s.all_kinds) s.header s.is_header) (some_integer (number_of call) s.number s.is_number) l short weigh in
+    let few = most_kinds (request_number call) s.numbered.all_kinds s.numbered.kinds_are in
+    let l : length payload ≡ length s.numbered.header + (length s.numbered.number + length s.numbered.rest) = ap (λ (x : List ℕ). length x) s.numbered.are ∙ length-append s.numbered.header (s.numbered.number ++ s.numbered.rest) ∙ ap (λ (n : ℕ). length s.numbered.header + n) (length-append s.numbered.number s.numbered.rest) in
+    let weigh = arguments_weigh s.numbered.all_kinds s.arguments s.numbered.rest s.numbered.are_arguments in
+    let most = within (texts_bytes s.arguments) (length s.numbered.all_kinds) (length s.numbered.header) (length s.numbered.number) (length s.numbered.rest) (length payload) few (some_array (1 + length s.numbered.all_kinds) s.numbered.header s.numbered.is_header) (some_integer (request_number call) s.numbered.number s.numbered.is_number) l short weigh in
     let all = all_texts call s.arguments s.has in
     record { numbers = numbers_fit call payload s; texts = omega (arith, most, all) }

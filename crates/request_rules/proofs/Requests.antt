@@ -1,286 +1,41 @@
--- A request is read exactly where it is spelled, and a payload that is none is found wrong exactly where it is.
-use Rattle.std.proofs.Common.{◌≡◌, ◌≢◌, ℕ, ◌+◌, ◌-◌, ◌≤◌, ℤ, pos, negsuc, Bool, true, false, cond, leb, eqb, List, [], ◌∷◌, ◌++◌, length, Option, Some, None, Result, Ok, Err, refl, sym, ap, subst, ◌∙◌, append_assoc, append-nil, length-append, arith, inl, inr}
-use Rattle.std.specs.Prelude.{is_some}
-use Rattle.std.proofs.lemmas.Bool.{leb-true, le-leb, eqb-true, eq-eqb, ne_eqb}
-use Rattle.definitions.specs.Spelling.{IsBytes, SpellsInteger, SpellsArray}
-use Rattle.definitions.specs.Calls.{Argument, Kind, SpellsArguments}
-use Rattle.definitions.specs.Reading.{◌>=>◌, item_at, integer_at, array_at, arguments_at, or_none, last_arguments_at, is_call_length}
-use Rattle.definitions.proofs.Bytes.{IsBytes-rest}
-use Rattle.definitions.proofs.Spelling.{integers_read, arrays_read}
-use Rattle.definitions.proofs.Items.{same_Ok, both_true, ReadsItems, no_item_stands, no_item_read, tested_items, arguments_taken, arguments_again, argument_wrong, wrong_argument_read}
+-- A payload spells one call, or is wrong at one place: what holds of each table of calls, and of each call its arguments.
+use Rattle.std.proofs.Common.{◌≡◌, ℕ, pos, List, Ok, subst, inl, inr}
+use Rattle.definitions.specs.Calls.{Argument, SpellsNumbered}
+use Rattle.definitions.proofs.Numbered.{numbered_spelled, wrong_at, numbered_or_wrong, numbered_read, numbered_one, wrong_read, one_place, never_both}
 use Rattle.step_rules.specs.Calls.{Call}
-use Rattle.request_rules.specs.Requests.{number_of, call_kinds, HasArguments, SpellsRequest, IsCallNumber, WrongRequest, wrong_header, wrong_number, wrong_length, wrong_argument, left_over}
-use Rattle.request_rules.specs.Reading.{has_call, kinds_of, request_at}
+use Rattle.request_rules.specs.Requests.{request_number, call_kinds, HasArguments, SpellsRequest}
 use Rattle.request_rules.specs.Laws.{SpellsOneCall, NeverBoth, WrongAtOnePlace, CallOrPlace, ReadingFindsCall, ReadingFindsPlace}
-use Rattle.request_rules.proofs.Arguments.{by_test, some_kinds, most_kinds, call_is, calls_one}
+use Rattle.request_rules.proofs.Arguments.{most_kinds, call_is, calls_one}
 
--- ---- a payload in parts
-
-record CallParts (c : ℕ) (all : List Kind) (good : List Argument) (payload : List ℕ) : Type 0 where
-  pub header : List ℕ
-  pub number : List ℕ
-  pub rest : List ℕ
-  pub kinds_are : call_kinds c ≡ Some all
-  pub is_header : SpellsArray (1 + length all) header
-  pub is_number : SpellsInteger (pos c) number
-  pub are_arguments : SpellsArguments all good rest
-  pub are : payload ≡ header ++ (number ++ rest)
-
-header_items : ReadsItems (λ bytes. item_at (array_at bytes) is_call_length bytes) (λ n item. (is_call_length n ≡ true) × SpellsArray n item)
-header_items = tested_items array_at SpellsArray is_call_length arrays_read
-
-number_items : ReadsItems (λ bytes. item_at (integer_at bytes) has_call bytes) (λ z item. (has_call z ≡ true) × SpellsInteger z item)
-number_items = tested_items integer_at SpellsInteger has_call integers_read
-
-call_length-within : (n : ℕ) → is_call_length n ≡ true → (1 ≤ n) × (n ≤ 8)
-call_length-within n e = let b = both_true (leb 1 n) (leb n 8) e in (leb-true 1 n b.0, leb-true n 8 b.1)
-
-within-call_length : (n : ℕ) → 1 ≤ n → n ≤ 8 → is_call_length n ≡ true
-within-call_length n low high = rw (le-leb 1 n low, le-leb n 8 high) refl
-
--- what is read behind the header and the number
-abbrev behind_number : (n c : ℕ) (all : List Kind) (bytes payload : List ℕ) → Result (ℤ × List Argument) ℕ
-behind_number n c all bytes payload = cond (eqb n (1 + length all)) (last_arguments_at all bytes >=> λ read. Ok (pos c, read)) (Err (length payload))
-
-call_front : (n c : ℕ) (all : List Kind) (header number bytes : List ℕ) → 1 ≤ n → n ≤ 8 → SpellsArray n header → SpellsInteger (pos c) number → call_kinds c ≡ Some all
-    → request_at (header ++ (number ++ bytes)) ≡ behind_number n c all bytes (header ++ (number ++ bytes))
-unfolding request_at
-call_front n c all header number bytes low high h i k =
-    let is_number : has_call (pos c) ≡ true = ap is_some k in
-    let are : kinds_of (pos c) ≡ all = ap or_none k in
-    rw (header_items.again n header (number ++ bytes) (within-call_length n low high, h), number_items.again (pos c) number bytes (is_number, i), are) refl
-
--- the header, the number and the arguments, where the length fits and all arguments are good
-call_behind : (c : ℕ) (all : List Kind) (good : List Argument) (bytes over payload : List ℕ) → arguments_at all bytes ≡ Ok (good, over) → behind_number (1 + length all) c all bytes payload ≡ cond (eqb (length over) 0) (Ok (pos c, good)) (Err (length over))
-unfolding last_arguments_at
-call_behind c all good bytes over payload e =
-    let fits : eqb (1 + length all) (1 + length all) ≡ true = eq-eqb (1 + length all) (1 + length all) refl in
-    rw (fits, e) (by_cases (eqb (length over) 0))
-  where
-    by_cases : (t : Bool) → (cond t (Ok good) (Err (length over)) >=> λ read. Ok (pos c, read)) ≡ cond {A = Result (ℤ × List Argument) ℕ} t (Ok (pos c, good)) (Err (length over))
-    by_cases true = refl
-    by_cases false = refl
-
-wrong_behind : (c : ℕ) (all : List Kind) (bytes payload : List ℕ) (left : ℕ) → arguments_at all bytes ≡ Err left → behind_number (1 + length all) c all bytes payload ≡ Err left
-unfolding last_arguments_at
-wrong_behind c all bytes payload left e =
-    let fits : eqb (1 + length all) (1 + length all) ≡ true = eq-eqb (1 + length all) (1 + length all) refl in
-    rw (fits, e) refl
-
-call_again : (c : ℕ) (all : List Kind) (good : List Argument) (payload over : List ℕ) → CallParts c all good payload → request_at (payload ++ over) ≡ cond (eqb (length over) 0) (Ok (pos c, good)) (Err (length over))
-call_again c all good payload over p =
-    let most = most_kinds c all p.kinds_are in
-    let parts : payload ++ over ≡ p.header ++ (p.number ++ (p.rest ++ over)) = ap (λ (x : List ℕ). x ++ over) p.are ∙ append_assoc p.header (p.number ++ p.rest) over ∙ ap (λ (x : List ℕ). p.header ++ x) (append_assoc p.number p.rest over) in
-    let front = call_front (1 + length all) c all p.header p.number (p.rest ++ over) (omega arith) (omega arith) p.is_header p.is_number p.kinds_are in
-    ap request_at parts ∙ front ∙ call_behind c all good (p.rest ++ over) over (p.header ++ (p.number ++ (p.rest ++ over))) (arguments_again all good p.rest over p.are_arguments)
-
--- ---- what reading a payload finds
-
-by_result : {A P : Type 0} (r : Result A ℕ) → ((x : A) → r ≡ Ok x → P) → ((left : ℕ) → r ≡ Err left → P) → P
-by_result (Ok x) f g = f x refl
-by_result (Err left) f g = g left refl
-
-kinds_found : (n : ℕ) (o : Option (List Kind)) → call_kinds n ≡ o → is_some o ≡ true → (all : List Kind) × (call_kinds n ≡ Some all)
-kinds_found n None e t = absurd cc
-kinds_found n (Some all) e t = (all, e)
-
-number_is : (z : ℤ) → has_call z ≡ true → (c : ℕ) × (all : List Kind) × (z ≡ pos c) × (call_kinds c ≡ Some all)
-number_is (pos n) t = let k = kinds_found n (call_kinds n) refl t in (n, k.0, refl, k.1)
-number_is (negsuc n) t = absurd cc
-
-data Found (payload : List ℕ) (read : Result (ℤ × List Argument) ℕ) : Type 0 where
-  found_call : (c : ℕ) (all : List Kind) (good : List Argument) → CallParts c all good payload → read ≡ Ok (pos c, good) → Found payload read
-  found_wrong : (place left : ℕ) → WrongRequest payload place → place + left ≡ length payload → read ≡ Err left → Found payload read
-
-whole_call : (c : ℕ) (all : List Kind) (good : List Argument) (spelled : List ℕ) → CallParts c all good spelled → (call : Call) × (c ≡ number_of call) × HasArguments call good × SpellsRequest call spelled
-whole_call c all good spelled p =
-    let call = call_is c all good p.rest p.kinds_are p.are_arguments in
-    let k : call_kinds (number_of call.0) ≡ Some all = subst (λ (n : ℕ). call_kinds n ≡ Some all) call.1 p.kinds_are in
-    let i : SpellsInteger (pos (number_of call.0)) p.number = subst (λ (n : ℕ). SpellsInteger (pos n) p.number) call.1 p.is_number in
-    (call.0, call.1, call.2, record { header = p.header; number = p.number; rest = p.rest; all_kinds = all; arguments = good; kinds_are = k; has = call.2; is_header = p.is_header; is_number = i; are_arguments = p.are_arguments; are = p.are })
-
-empty_is : (bytes : List ℕ) → eqb (length bytes) 0 ≡ true → bytes ≡ []
-empty_is [] e = refl
-empty_is (b ∷ bytes) e = absurd (let n = eqb-true (length (b ∷ bytes)) 0 e in omega arith)
-
-length_none : (bytes : List ℕ) → length bytes ≡ 0 → bytes ≡ []
-length_none [] e = refl
-length_none (b ∷ bytes) e = absurd (omega arith)
-
-not_empty : (bytes : List ℕ) → eqb (length bytes) 0 ≡ false → bytes ≢ []
-not_empty bytes f e = let t : eqb (length bytes) 0 ≡ true = ap (λ (x : List ℕ). eqb (length x) 0) e in cc
-
-module _ (c : ℕ) (all : List Kind) (payload header number bytes : List ℕ) (are : IsBytes bytes) (h : SpellsArray (1 + length all) header) (i : SpellsInteger (pos c) number) (k : call_kinds c ≡ Some all) (parts : payload ≡ header ++ (number ++ bytes)) where
-  arguments_found : request_at payload ≡ behind_number (1 + length all) c all bytes payload → Found payload (request_at payload)
-  arguments_found e =
-      by_result (arguments_at all bytes)
-      (λ read ok.
-      let t = arguments_taken all bytes read.0 read.1 are ok in
-      let spelled : CallParts c all read.0 (header ++ (number ++ t.0)) = record { header = header; number = number; rest = t.0; kinds_are = k; is_header = h; is_number = i; are_arguments = t.1; are = refl } in
-      let whole : payload ≡ (header ++ (number ++ t.0)) ++ read.1 =
-      parts ∙ ap (λ (x : List ℕ). header ++ (number ++ x)) t.2.parts ∙ ap (λ (x : List ℕ). header ++ x) (sym (append_assoc number t.0 read.1)) ∙ sym (append_assoc header (number ++ t.0) read.1) in
-      let found = e ∙ call_behind c all read.0 bytes read.1 payload ok in
-      by_test (eqb (length read.1) 0)
-      (λ y.
-      let none = empty_is read.1 y in
-      let same : header ++ (number ++ t.0) ≡ payload = sym (append-nil (header ++ (number ++ t.0))) ∙ ap (λ (x : List ℕ). (header ++ (number ++ t.0)) ++ x) (sym none) ∙ sym whole in
-      found_call c all read.0 (subst (λ (x : List ℕ). CallParts c all read.0 x) same spelled) (found ∙ rw y refl))
-      (λ n.
-      let call = whole_call c all read.0 (header ++ (number ++ t.0)) spelled in
-      let l = ap (λ (x : List ℕ). length x) whole ∙ length-append (header ++ (number ++ t.0)) read.1 in
-      found_wrong (length (header ++ (number ++ t.0))) (length read.1) (left_over call.0 (header ++ (number ++ t.0)) read.1 whole call.3 (not_empty read.1 n) refl) (sym l) (found ∙ rw n refl)))
-      (λ left wrong.
-      let w = argument_wrong all bytes left are wrong in
-      let whole : payload ≡ header ++ (number ++ (w.read ++ w.rest)) = parts ∙ ap (λ (x : List ℕ). header ++ (number ++ x)) w.parts in
-      let h' : SpellsArray (1 + length (w.before ++ w.kind ∷ w.after)) header = subst (λ (ks : List Kind). SpellsArray (1 + length ks) header) w.all_are h in
-      let k' : call_kinds c ≡ Some (w.before ++ w.kind ∷ w.after) = k ∙ ap some_kinds w.all_are in
-      let l : length (header ++ (number ++ w.read)) + left ≡ length payload = sym (ap (λ (x : List ℕ). length x) whole ∙ simp length-append (let q = w.left_is in omega arith)) in
-      found_wrong (length (header ++ (number ++ w.read))) left (wrong_argument c header number w.read w.rest w.before w.kind w.after w.good whole h' i k' w.spelled w.none refl) l (e ∙ wrong_behind c all bytes payload left wrong))
-
-read_found : (payload : List ℕ) → IsBytes payload → Found payload (request_at payload)
-unfolding request_at
-read_found payload are =
-    by_result (item_at (array_at payload) is_call_length payload)
-    (λ n e1.
-    let t1 = header_items.takes payload n.0 n.1 are e1 in
-    let within = call_length-within n.0 t1.1.0 in
-    let l1 = ap (λ (x : List ℕ). length x) t1.2.parts ∙ length-append t1.0 n.1 in
-    by_result (item_at (integer_at n.1) has_call n.1)
-    (λ z e2.
-    let t2 = number_items.takes n.1 z.0 z.1 t1.2.rest_is_bytes e2 in
-    let c = number_is z.0 t2.1.0 in
-    let i : SpellsInteger (pos c.0) t2.0 = subst (λ (x : ℤ). SpellsInteger x t2.0) c.2 t2.1.1 in
-    let parts : payload ≡ t1.0 ++ (t2.0 ++ z.1) = t1.2.parts ∙ ap (λ (x : List ℕ). t1.0 ++ x) t2.2.parts in
-    let front = subst (λ (x : List ℕ). request_at x ≡ behind_number n.0 c.0 c.1 z.1 x) (sym parts) (call_front n.0 c.0 c.1 t1.0 t2.0 z.1 within.0 within.1 t1.1.1 i c.3) in
-    by_test (eqb n.0 (1 + length c.1))
-    (λ y.
-    let fits : n.0 ≡ 1 + length c.1 = eqb-true n.0 (1 + length c.1) y in
-    arguments_found c.0 c.1 payload t1.0 t2.0 z.1 t2.2.rest_is_bytes (subst (λ (m : ℕ). SpellsArray m t1.0) fits t1.1.1) i c.3 parts (subst (λ (m : ℕ). request_at payload ≡ behind_number m c.0 c.1 z.1 payload) fits front))
-    (λ y.
-    let differs : n.0 ≢ 1 + length c.1 = λ same. let t = eq-eqb n.0 (1 + length c.1) same in cc in
-    found_wrong 0 (length payload) (wrong_length n.0 c.0 t1.0 t2.0 z.1 c.1 parts t1.1.1 within.0 within.1 i c.3 differs refl) (omega arith) (front ∙ rw y refl)))
-    (λ left e2.
-    let none = no_item_stands ℤ (λ bytes. item_at (integer_at bytes) has_call bytes) (λ z item. (has_call z ≡ true) × SpellsInteger z item) number_items n.1 left e2 in
-    let l2 = number_items.wrong n.1 left e2 in
-    found_wrong (length t1.0) left
-    (wrong_number t1.0 n.1 t1.2.parts (n.0, within.0, within.1, t1.1.1) (λ front rest p s. none front rest p (pos s.0, (s.1, s.2))) refl)
-    (omega arith) (rw (e1, e2) refl)))
-    (λ left e1.
-    let none = no_item_stands ℕ (λ bytes. item_at (array_at bytes) is_call_length bytes) (λ n item. (is_call_length n ≡ true) × SpellsArray n item) header_items payload left e1 in
-    let l1 = header_items.wrong payload left e1 in
-    found_wrong 0 left (wrong_header (λ front rest p s. none front rest p (s.0, (within-call_length s.0 s.1 s.2, s.3))) refl) (omega arith) (rw e1 refl))
-
-same_number : (a b : ℕ) (x y : List Argument) → ◌≡◌ {A = Result (ℤ × List Argument) ℕ} (Ok (pos a, x)) (Ok (pos b, y)) → (a ≡ b) × (x ≡ y)
-same_number a b x y e =
-    let p = same_Ok {A = ℤ × List Argument} (pos a, x) (pos b, y) e in
-    let number : pos a ≡ pos b = ap (λ (q : ℤ × List Argument). q.0) p in
-    (cc, ap (λ (q : ℤ × List Argument). q.1) p)
-
-parts_of : (call : Call) (payload : List ℕ) (s : SpellsRequest call payload) → CallParts (number_of call) s.all_kinds s.arguments payload
-parts_of call payload s = record { header = s.header; number = s.number; rest = s.rest; kinds_are = s.kinds_are; is_header = s.is_header; is_number = s.is_number; are_arguments = s.are_arguments; are = s.are }
-
--- ---- the laws of reading
-
--- a spelled call is read, whatever it is spelled with
-call_read : (payload : List ℕ) (call : Call) (s : SpellsRequest call payload) → request_at payload ≡ Ok (pos (number_of call), s.arguments)
-call_read payload call s =
-    let again = call_again (number_of call) s.all_kinds s.arguments payload [] (parts_of call payload s) in
-    ap request_at (sym (append-nil payload)) ∙ again
-
--- what is read as arguments of a call is spelled as that call
-call_spelled : (payload : List ℕ) (call : Call) (good : List Argument) → IsBytes payload → HasArguments call good → request_at payload ≡ Ok (pos (number_of call), good) → SpellsRequest call payload
-call_spelled payload call good are has e =
-    elim (read_found payload are) [
-      | found_call c all found p r ↦
-          let same = same_number c (number_of call) found good (sym r ∙ e) in
-          let k : call_kinds (number_of call) ≡ Some all = subst (λ (n : ℕ). call_kinds n ≡ Some all) same.0 p.kinds_are in
-          let i : SpellsInteger (pos (number_of call)) p.number = subst (λ (n : ℕ). SpellsInteger (pos n) p.number) same.0 p.is_number in
-          let a : SpellsArguments all good p.rest = subst (λ (g : List Argument). SpellsArguments all g p.rest) same.1 p.are_arguments in
-          record { header = p.header; number = p.number; rest = p.rest; all_kinds = all; arguments = good; kinds_are = k; has = has; is_header = p.is_header; is_number = i; are_arguments = a; are = p.are }
-      | found_wrong place left w l r ↦ absurd (let never = sym r ∙ e in cc)
-    ]
-
--- where no call is read, the payload is wrong at the place that reading names
-wrong_found : (payload : List ℕ) (left : ℕ) → IsBytes payload → request_at payload ≡ Err left → (left ≤ length payload) × WrongRequest payload (length payload - left)
-wrong_found payload left are e =
-    elim (read_found payload are) [
-      | found_call c all good p r ↦ absurd (let never = sym e ∙ r in cc)
-      | found_wrong place left' w l r ↦
-          let same : left' ≡ left = let both = sym r ∙ e in cc in
-          let is : place ≡ length payload - left = omega arith in
-          (omega arith, subst (λ (n : ℕ). WrongRequest payload n) is w)
-    ]
-
--- the place of a fault, from the bytes that were left there
-left_at : (payload : List ℕ) (place left : ℕ) → place + left ≡ length payload → request_at payload ≡ Err left → (request_at payload ≡ Err (length payload - place)) × (place ≤ length payload)
-left_at payload place left l e = let is : left ≡ length payload - place = omega arith in (e ∙ ap (λ (n : ℕ). Err n) is, omega arith)
-
-number_front : (z : ℤ) (item : List ℕ) → has_call z ≡ true → SpellsInteger z item → IsCallNumber item
-number_front z item t s = let c = number_is z t in (c.0, ap is_some c.3, subst (λ (x : ℤ). SpellsInteger x item) c.2 s)
-
--- a payload that is wrong at a place is read as wrong there
-wrong_read : (payload : List ℕ) (place : ℕ) → IsBytes payload → WrongRequest payload place → (request_at payload ≡ Err (length payload - place)) × (place ≤ length payload)
-unfolding request_at
-wrong_read payload place are (wrong_header none place_is) =
-    let e = no_item_read ℕ (λ bytes. item_at (array_at bytes) is_call_length bytes) (λ n item. (is_call_length n ≡ true) × SpellsArray n item) header_items payload are
-    (λ front rest p s. let w = call_length-within s.0 s.1.0 in none front rest p (s.0, w.0, w.1, s.1.1)) in
-    left_at payload place (length payload) (omega arith) (rw e refl)
-wrong_read payload place are (wrong_number header rest parts h none place_is) =
-    let whole : item_at (array_at payload) is_call_length payload ≡ Ok (h.0, rest) = subst (λ (x : List ℕ). item_at (array_at x) is_call_length x ≡ Ok (h.0, rest)) (sym parts) (header_items.again h.0 header rest (within-call_length h.0 h.1 h.2, h.3)) in
-    let e = no_item_read ℤ (λ bytes. item_at (integer_at bytes) has_call bytes) (λ z item. (has_call z ≡ true) × SpellsInteger z item) number_items rest
-    (IsBytes-rest header rest (subst IsBytes parts are)) (λ front behind p s. none front behind p (number_front s.0 front s.1.0 s.1.1)) in
-    let l = ap (λ (x : List ℕ). length x) parts ∙ length-append header rest in
-    left_at payload place (length rest) (omega arith) (rw (whole, e) refl)
-wrong_read payload place are (wrong_length n c header number rest all parts h low high i k differs place_is) =
-    let front = subst (λ (x : List ℕ). request_at x ≡ behind_number n c all rest x) (sym parts) (call_front n c all header number rest low high h i k) in
-    let f : eqb n (1 + length all) ≡ false = ne_eqb n (1 + length all) differs in
-    left_at payload place (length payload) (omega arith) (front ∙ rw f refl)
-wrong_read payload place are (wrong_argument c header number read rest before kind after good parts h i k s none place_is) =
-    let most = most_kinds c (before ++ kind ∷ after) k in
-    let all = before ++ kind ∷ after in
-    let bytes : IsBytes rest = IsBytes-rest read rest (IsBytes-rest number (read ++ rest) (IsBytes-rest header (number ++ (read ++ rest)) (subst IsBytes parts are))) in
-    let front = subst (λ (x : List ℕ). request_at x ≡ behind_number (1 + length all) c all (read ++ rest) x) (sym parts) (call_front (1 + length all) c all header number (read ++ rest) (omega arith) (omega arith) h i k) in
-    let l : length (header ++ (number ++ read)) + length rest ≡ length payload = sym (ap (λ (x : List ℕ). length x) parts ∙ simp length-append (omega arith)) in
-    left_at payload place (length rest) (rw place_is l) (front ∙ wrong_behind c all (read ++ rest) payload (length rest) (wrong_argument_read before kind after good read rest bytes s none))
-wrong_read payload place are (left_over call spelled rest parts s some place_is) =
-    let again = call_again (number_of call) s.all_kinds s.arguments spelled rest (parts_of call spelled s) in
-    let f : eqb (length rest) 0 ≡ false = ne_eqb (length rest) 0 (λ none. some (length_none rest none)) in
-    let l = ap (λ (x : List ℕ). length x) parts ∙ length-append spelled rest in
-    left_at payload place (length rest) (omega arith) (ap request_at parts ∙ again ∙ rw f refl)
-
--- the same the other way round
-wrong_at : (payload : List ℕ) (place : ℕ) → IsBytes payload → place ≤ length payload → request_at payload ≡ Err (length payload - place) → WrongRequest payload place
-wrong_at payload place are le e =
-    let w = wrong_found payload (length payload - place) are e in
-    let back : length payload - (length payload - place) ≡ place = omega arith in
-    subst (λ (n : ℕ). WrongRequest payload n) back w.1
-
--- ---- a payload is one call, or is wrong at one place
+-- what is spelled by the table is a call
+whole_call : (c : ℕ) (good : List Argument) (payload : List ℕ) → SpellsNumbered call_kinds c good payload → (call : Call) × SpellsRequest call payload
+whole_call c good payload s =
+    let call = call_is c s.all_kinds good s.rest s.kinds_are s.are_arguments in
+    (call.0, record { arguments = good; has = call.2; numbered = subst (λ (n : ℕ). SpellsNumbered call_kinds n good payload) call.1 s })
 
 pub one_call : SpellsOneCall
 one_call payload a b s t =
-    let same = same_number (number_of a) (number_of b) s.arguments t.arguments (sym (call_read payload a s) ∙ call_read payload b t) in
+    let same = numbered_one call_kinds most_kinds payload (request_number a) (request_number b) s.arguments t.arguments s.numbered t.numbered in
     calls_one a b s.arguments t.arguments s.has t.has same.0 same.1
 
-pub one_place : WrongAtOnePlace
-one_place payload place other are w v =
-    let a = wrong_read payload place are w in
-    let b = wrong_read payload other are v in
-    let same : length payload - place ≡ length payload - other = let both = sym a.0 ∙ b.0 in cc in
-    omega (arith, a.1, b.1)
+pub one_request_place : WrongAtOnePlace
+one_request_place payload place other are w v = one_place call_kinds most_kinds payload place other are w v
 
-pub never_both : NeverBoth
-never_both payload call place are s w = let both = sym (call_read payload call s) ∙ (wrong_read payload place are w).0 in cc
+pub call_never_wrong : NeverBoth
+call_never_wrong payload call place are s w = never_both call_kinds most_kinds payload (request_number call) s.arguments place are s.numbered w
 
 pub call_or_place : CallOrPlace
 call_or_place payload are =
-    elim (read_found payload are) [
-      | found_call c all good p r ↦ let call = whole_call c all good payload p in inl (call.0, call.3)
-      | found_wrong place left w l r ↦ inr (place, w)
+    elim (numbered_or_wrong call_kinds payload are) [
+      | inl s ↦ inl (whole_call s.0 s.1 payload s.2)
+      | inr w ↦ inr w
     ]
 
 pub reading_call : ReadingFindsCall
-reading_call payload call are = (λ s. (s.arguments, s.has, call_read payload call s), λ r. call_spelled payload call r.0 are r.1 r.2)
+reading_call payload call are = (
+  λ s. (s.arguments, s.has, numbered_read call_kinds most_kinds payload (request_number call) s.arguments s.numbered),
+  λ r. record { arguments = r.0; has = r.1; numbered = numbered_spelled call_kinds payload (request_number call) r.0 are r.2 },
+)
 
 pub reading_place : ReadingFindsPlace
-reading_place payload place are = (λ w. wrong_read payload place are w, λ r. wrong_at payload place are r.1 r.0)
+reading_place payload place are = (λ w. wrong_read call_kinds most_kinds payload place are w, λ r. wrong_at call_kinds payload place are r.1 r.0)

@@ -1,9 +1,9 @@
 -- Worked examples: a payload of each call, and payloads that are wrong. Texts are ASCII.
 use Rattle.std.specs.Prelude.{ℕ, pos, negsuc, List, [], ◌∷◌, ◌++◌, codes, true, false}
-use Rattle.definitions.specs.Calls.{by_prefix, by_substring}
+use Rattle.definitions.specs.Calls.{by_prefix, by_substring, WrongAt}
 use Rattle.view_rules.specs.Answers.{of_all, of_hostname, ScopedQuery}
 use Rattle.step_rules.specs.Calls.{start_call, end_call, delete_call, search_call, kv_set_call, kv_get_call, kv_list_call, alias_set_call, alias_delete_call, alias_list_call, status_call}
-use Rattle.request_rules.specs.Requests.{SpellsRequest, WrongRequest}
+use Rattle.request_rules.specs.Requests.{call_kinds, SpellsRequest}
 
 -- the id 10 in its digits
 abbrev pub ten_digits : List ℕ
@@ -37,21 +37,21 @@ pub record WorkedCalls : Type 0 where
 
 pub record WorkedFaults : Type 0 where
   -- nothing, an array of no items, and one of nine
-  pub nothing : WrongRequest [] 0
-  pub no_items : WrongRequest (0x90 ∷ []) 0
-  pub nine_items : WrongRequest (0x99 ∷ 0x0b ∷ []) 0
+  pub nothing : WrongAt call_kinds [] 0
+  pub no_items : WrongAt call_kinds (0x90 ∷ []) 0
+  pub nine_items : WrongAt call_kinds (0x99 ∷ 0x0b ∷ []) 0
   -- a number that no call has is found before the array's length is
-  pub number : WrongRequest (0x95 ∷ 0x0c ∷ []) 1
+  pub number : WrongAt call_kinds (0x95 ∷ 0x0c ∷ []) 1
   -- a Status with an argument: the array's length is wrong
-  pub items : WrongRequest (0x92 ∷ 0x0b ∷ 0x00 ∷ []) 0
+  pub items : WrongAt call_kinds (0x92 ∷ 0x0b ∷ 0x00 ∷ []) 0
   -- a Search with the mode 2, the filter 4, and 2 for whether hits are unique
-  pub mode : WrongRequest (0x98 ∷ 0x04 ∷ 0x02 ∷ 0x00 ∷ 0xa0 ∷ 0xa0 ∷ 0x00 ∷ 0x00 ∷ 0x01 ∷ []) 2
-  pub filter : WrongRequest (0x98 ∷ 0x04 ∷ 0x00 ∷ 0x04 ∷ 0xa0 ∷ 0xa0 ∷ 0x00 ∷ 0x00 ∷ 0x01 ∷ []) 3
-  pub unique : WrongRequest (0x98 ∷ 0x04 ∷ 0x00 ∷ 0x00 ∷ 0xa0 ∷ 0xa0 ∷ 0x02 ∷ 0x00 ∷ 0x01 ∷ []) 6
+  pub mode : WrongAt call_kinds (0x98 ∷ 0x04 ∷ 0x02 ∷ 0x00 ∷ 0xa0 ∷ 0xa0 ∷ 0x00 ∷ 0x00 ∷ 0x01 ∷ []) 2
+  pub filter : WrongAt call_kinds (0x98 ∷ 0x04 ∷ 0x00 ∷ 0x04 ∷ 0xa0 ∷ 0xa0 ∷ 0x00 ∷ 0x00 ∷ 0x01 ∷ []) 3
+  pub unique : WrongAt call_kinds (0x98 ∷ 0x04 ∷ 0x00 ∷ 0x00 ∷ 0xa0 ∷ 0xa0 ∷ 0x02 ∷ 0x00 ∷ 0x01 ∷ []) 6
   -- an AliasList with the limit 0, and a KvList with the limit 1,001
-  pub limit : WrongRequest (0x93 ∷ 0x0a ∷ 0xa0 ∷ 0x00 ∷ []) 3
-  pub great_limit : WrongRequest (0x94 ∷ 0x07 ∷ 0xa0 ∷ 0xa0 ∷ 0xcd ∷ 0x03 ∷ 0xe9 ∷ []) 4
+  pub limit : WrongAt call_kinds (0x93 ∷ 0x0a ∷ 0xa0 ∷ 0x00 ∷ []) 3
+  pub great_limit : WrongAt call_kinds (0x94 ∷ 0x07 ∷ 0xa0 ∷ 0xa0 ∷ 0xcd ∷ 0x03 ∷ 0xe9 ∷ []) 4
   -- a KvGet whose key is cut
-  pub cut : WrongRequest (0x93 ∷ 0x06 ∷ 0xa1 ∷ 0x6e ∷ 0xa2 ∷ 0x6b ∷ []) 4
+  pub cut : WrongAt call_kinds (0x93 ∷ 0x06 ∷ 0xa1 ∷ 0x6e ∷ 0xa2 ∷ 0x6b ∷ []) 4
   -- a byte behind a Status
-  pub behind : WrongRequest (0x91 ∷ 0x0b ∷ 0x00 ∷ []) 2
+  pub behind : WrongAt call_kinds (0x91 ∷ 0x0b ∷ 0x00 ∷ []) 2

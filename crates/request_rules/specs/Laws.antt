@@ -1,11 +1,11 @@
 -- The laws of requests, as statements. Each is the contract of the function of its name.
 use Rattle.std.specs.Prelude.{◌≡◌, ℕ, ◌-◌, ◌≤◌, ◌⊎◌, ◌↔◌, pos, List, length, Ok, Err}
 use Rattle.definitions.specs.Spelling.{IsBytes}
-use Rattle.definitions.specs.Calls.{Argument}
+use Rattle.definitions.specs.Calls.{Argument, WrongAt}
+use Rattle.definitions.specs.Reading.{call_at}
 use Rattle.definitions.specs.Frames.{most_payload_bytes}
 use Rattle.step_rules.specs.Calls.{Call, CallFits}
-use Rattle.request_rules.specs.Requests.{number_of, HasArguments, SpellsRequest, WrongRequest}
-use Rattle.request_rules.specs.Reading.{request_at}
+use Rattle.request_rules.specs.Requests.{request_number, call_kinds, HasArguments, SpellsRequest}
 
 -- a payload spells one call at most
 abbrev pub SpellsOneCall : Type 0
@@ -13,22 +13,22 @@ SpellsOneCall = (payload : List ℕ) (a b : Call) → SpellsRequest a payload �
 
 -- what spells a call is wrong nowhere
 abbrev pub NeverBoth : Type 0
-NeverBoth = (payload : List ℕ) (call : Call) (place : ℕ) → IsBytes payload → SpellsRequest call payload → WrongRequest payload place → ⊥
+NeverBoth = (payload : List ℕ) (call : Call) (place : ℕ) → IsBytes payload → SpellsRequest call payload → WrongAt call_kinds payload place → ⊥
 
 -- a payload is wrong at one place at most
 abbrev pub WrongAtOnePlace : Type 0
-WrongAtOnePlace = (payload : List ℕ) (place other : ℕ) → IsBytes payload → WrongRequest payload place → WrongRequest payload other → place ≡ other
+WrongAtOnePlace = (payload : List ℕ) (place other : ℕ) → IsBytes payload → WrongAt call_kinds payload place → WrongAt call_kinds payload other → place ≡ other
 
 -- bytes spell a call, or are wrong at a place
 abbrev pub CallOrPlace : Type 0
-CallOrPlace = (payload : List ℕ) → IsBytes payload → ((call : Call) × SpellsRequest call payload) ⊎ ((place : ℕ) × WrongRequest payload place)
+CallOrPlace = (payload : List ℕ) → IsBytes payload → ((call : Call) × SpellsRequest call payload) ⊎ ((place : ℕ) × WrongAt call_kinds payload place)
 
 -- reading finds arguments of a call exactly where the call is spelled, and the place exactly where the payload is wrong
 abbrev pub ReadingFindsCall : Type 0
-ReadingFindsCall = (payload : List ℕ) (call : Call) → IsBytes payload → SpellsRequest call payload ↔ ((arguments : List Argument) × HasArguments call arguments × (request_at payload ≡ Ok (pos (number_of call), arguments)))
+ReadingFindsCall = (payload : List ℕ) (call : Call) → IsBytes payload → SpellsRequest call payload ↔ ((arguments : List Argument) × HasArguments call arguments × (call_at call_kinds payload ≡ Ok (pos (request_number call), arguments)))
 
 abbrev pub ReadingFindsPlace : Type 0
-ReadingFindsPlace = (payload : List ℕ) (place : ℕ) → IsBytes payload → WrongRequest payload place ↔ ((request_at payload ≡ Err (length payload - place)) × (place ≤ length payload))
+ReadingFindsPlace = (payload : List ℕ) (place : ℕ) → IsBytes payload → WrongAt call_kinds payload place ↔ ((call_at call_kinds payload ≡ Err (length payload - place)) × (place ≤ length payload))
 
 -- what a payload of a frame that is read spells is a call that a store may be asked
 abbrev pub SpelledCallFits : Type 0

@@ -1,4 +1,3 @@
 pub mod Requests
-pub mod Reading
 pub mod Laws
 pub mod Examples

@@ -1,26 +1,25 @@
--- Which payload spells which call, and where a payload that spells none goes wrong. A payload is a MessagePack array of
--- the call's number and its arguments.
-use Rattle.std.specs.Prelude.{◌≡◌, ◌≢◌, ℕ, ◌+◌, ◌-◌, ◌<◌, ◌≤◌, ◌^◌, pos, List, [], ◌∷◌, ◌++◌, length, Bool, true, false, Option, Some, None, IsSome, ◌==◌, if◌then◌else◌}
-use Rattle.definitions.specs.Spelling.{SpellsInteger, SpellsArray}
+-- Which payload spells which of a store's calls: their numbers, the kinds of their arguments, and what an argument says.
+-- What spells a number with arguments, and where a payload goes wrong that is none, is said by `definitions`.
+use Rattle.std.specs.Prelude.{◌≡◌, ℕ, ◌-◌, ◌<◌, ◌^◌, pos, List, [], ◌∷◌, Bool, true, false, Option, Some, None, ◌==◌, if◌then◌else◌}
 use Rattle.definitions.specs.Ids.{id_text}
-use Rattle.definitions.specs.Calls.{mode_number, Argument, a_text, an_integer, Kind, any_text, id_digits, from_to, start_kinds, end_kinds, SpellsArguments, NoFront, IsHeader, IsArgument}
+use Rattle.definitions.specs.Calls.{mode_number, Argument, a_text, an_integer, Kind, any_text, id_digits, from_to, start_kinds, end_kinds, SpellsNumbered}
 use Rattle.view_rules.specs.Answers.{Scope, of_all, of_hostname, of_session, of_cwd, ScopedQuery}
 use Rattle.step_rules.specs.Calls.{most_listed, Call, start_call, end_call, delete_call, search_call, kv_set_call, kv_get_call, kv_list_call, alias_set_call, alias_delete_call, alias_list_call, status_call}
 
 -- ---- calls by their numbers
 
-abbrev pub number_of : Call → ℕ
-number_of (start_call command cwd session hostname) = 1
-number_of (end_call id duration exit) = 2
-number_of (delete_call id) = 3
-number_of (search_call asked) = 4
-number_of (kv_set_call namespace key value) = 5
-number_of (kv_get_call namespace key) = 6
-number_of (kv_list_call namespace after limit) = 7
-number_of (alias_set_call name value) = 8
-number_of (alias_delete_call name) = 9
-number_of (alias_list_call after limit) = 10
-number_of status_call = 11
+abbrev pub request_number : Call → ℕ
+request_number (start_call command cwd session hostname) = 1
+request_number (end_call id duration exit) = 2
+request_number (delete_call id) = 3
+request_number (search_call asked) = 4
+request_number (kv_set_call namespace key value) = 5
+request_number (kv_get_call namespace key) = 6
+request_number (kv_list_call namespace after limit) = 7
+request_number (alias_set_call name value) = 8
+request_number (alias_delete_call name) = 9
+request_number (alias_list_call after limit) = 10
+request_number status_call = 11
 
 -- hits, keys or aliases that are asked for
 abbrev pub limit_kind : Kind
@@ -105,33 +104,8 @@ HasArguments status_call arguments = arguments ≡ []
 
 -- ---- payloads
 
--- an array of the call's number and its arguments, in any widths that hold them
+-- the payload is the call's number and arguments of it
 pub record SpellsRequest (call : Call) (payload : List ℕ) : Type 0 where
-  pub header : List ℕ
-  pub number : List ℕ
-  pub rest : List ℕ
-  pub all_kinds : List Kind
   pub arguments : List Argument
-  pub kinds_are : call_kinds (number_of call) ≡ Some all_kinds
   pub has : HasArguments call arguments
-  pub is_header : SpellsArray (1 + length all_kinds) header
-  pub is_number : SpellsInteger (pos (number_of call)) number
-  pub are_arguments : SpellsArguments all_kinds arguments rest
-  pub are : payload ≡ header ++ (number ++ rest)
-
--- the number of one of the calls
-abbrev pub IsCallNumber : List ℕ → Type 0
-IsCallNumber bytes = (n : ℕ) × IsSome (call_kinds n) × SpellsInteger (pos n) bytes
-
--- Reading from the left, the first wrong item of the payload has its first byte at this place. The header is of 1 to 8
--- items. The number is judged before the array's length, and a wrong length is a fault of the header, at place 0. Then
--- comes each argument, and then what stands behind the call. An item that is cut is wrong at its first byte.
-pub data WrongRequest (payload : List ℕ) (place : ℕ) : Type 0 where
-  wrong_header : NoFront IsHeader payload → place ≡ 0 → WrongRequest payload place
-  wrong_number : (header rest : List ℕ) → payload ≡ header ++ rest → IsHeader header → NoFront IsCallNumber rest → place ≡ length header → WrongRequest payload place
-  wrong_length : (n c : ℕ) (header number rest : List ℕ) (all_kinds : List Kind) → payload ≡ header ++ (number ++ rest) → SpellsArray n header → 1 ≤ n → n ≤ 8
-      → SpellsInteger (pos c) number → call_kinds c ≡ Some all_kinds → n ≢ 1 + length all_kinds → place ≡ 0 → WrongRequest payload place
-  wrong_argument : (c : ℕ) (header number read rest : List ℕ) (before : List Kind) (kind : Kind) (after : List Kind) (good : List Argument) → payload ≡ header ++ (number ++ (read ++ rest))
-      → SpellsArray (1 + length (before ++ kind ∷ after)) header → SpellsInteger (pos c) number → call_kinds c ≡ Some (before ++ kind ∷ after) → SpellsArguments before good read
-      → NoFront (IsArgument kind) rest → place ≡ length (header ++ (number ++ read)) → WrongRequest payload place
-  left_over : (call : Call) (spelled rest : List ℕ) → payload ≡ spelled ++ rest → SpellsRequest call spelled → rest ≢ [] → place ≡ length spelled → WrongRequest payload place
+  pub numbered : SpellsNumbered call_kinds (request_number call) arguments payload

@@ -1,9 +1,10 @@
--- Replies and their bytes: an array of 0, the front and the answer's item, or of the refusal's number, the front and its values. Each integer is in its shortest form.
+-- Replies and their bytes: an array of 0, the front and the answer's item, or of the refusal's number, the front and its
+-- values. Each integer is in its shortest form. What a plain journal answers too has the same bytes.
 use Rattle.std.specs.Prelude.{ℕ, List, ◌∷◌, ◌++◌, length, take, drop, Option, Some, None}
 use Rattle.std.specs.List.{flat_map}
 use Rattle.definitions.specs.Spelling.{written_text, written_array}
 use Rattle.definitions.specs.Ids.{id_text}
-use Rattle.definitions.specs.Replies.{written_number, hit_item, ok_bytes, refusal_bytes, refusal_of_bytes}
+use Rattle.definitions.specs.Replies.{written_number, ok_bytes, refusal_bytes, refusal_of_bytes, began_bytes, stored_bytes, hits_bytes, unknown_id_bytes, random_fault_bytes, id_taken_bytes, no_memory_bytes, bad_request_bytes}
 use Rattle.payload_rules.specs.Items.{written_nil}
 use Rattle.record_rules.specs.Journal.{ChainCount}
 use Rattle.view_rules.specs.Answers.{Named}
@@ -32,19 +33,19 @@ place_item chain = written_array 3 ++ (written_text (hyphenated chain.host) ++ (
 -- each refusal under its number, from 1
 abbrev pub refused_bytes : ℕ → Refusal → List ℕ
 refused_bytes front (too_long field length) = written_array 4 ++ (written_number 1 ++ (written_number front ++ (written_number field ++ written_number length)))
-refused_bytes front (unknown_id id) = refusal_of_bytes 2 front (written_text (id_text id))
+refused_bytes front (unknown_id id) = unknown_id_bytes front id
 refused_bytes front (unknown_name name) = refusal_of_bytes 3 front (written_text name)
 refused_bytes front (full passed) = written_array 4 ++ (written_number 4 ++ (written_number front ++ (written_number passed.what ++ written_number passed.held)))
-refused_bytes front random_fault = refusal_bytes 5 front
-refused_bytes front (id_taken id) = refusal_of_bytes 6 front (written_text (id_text id))
+refused_bytes front random_fault = random_fault_bytes front
+refused_bytes front (id_taken id) = id_taken_bytes front id
 refused_bytes front disk_fault = refusal_bytes 7 front
-refused_bytes front no_memory = refusal_bytes 8 front
-refused_bytes front (bad_request place) = refusal_of_bytes 9 front (written_number place)
+refused_bytes front no_memory = no_memory_bytes front
+refused_bytes front (bad_request place) = bad_request_bytes front place
 
 abbrev pub answer_bytes : ℕ → Answer → List ℕ
-answer_bytes front (began id) = ok_bytes front (written_text (id_text id))
-answer_bytes front (stored idx) = ok_bytes front (written_number idx)
-answer_bytes front (hits found) = ok_bytes front (written_list hit_item found)
+answer_bytes front (began id) = began_bytes front id
+answer_bytes front (stored idx) = stored_bytes front idx
+answer_bytes front (hits found) = hits_bytes front found
 answer_bytes front (value_is value) = ok_bytes front (value_item value)
 answer_bytes front (keys found) = ok_bytes front (written_list written_text found)
 answer_bytes front (aliases found) = ok_bytes front (written_list alias_item found)

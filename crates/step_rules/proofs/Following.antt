@@ -13,7 +13,7 @@ use Rattle.record_rules.proofs.Options.{cond_none}
 use Rattle.record_rules.proofs.Members.{Has, find_has}
 use Rattle.record_rules.proofs.Soundness.{local_not_started}
 use Rattle.step_rules.specs.Calls.{Call, start_call, LimitedText, LongText, of_name, of_value, first_long, long_text, call_bytes, most_call_bytes, CallFits}
-use Rattle.step_rules.specs.Store.{Head, KeyedStore, sealed_record, payload_bytes, SealsWell}
+use Rattle.step_rules.specs.Store.{Head, KeyedStore, sealed_record, payload_text_bytes, SealsWell}
 use Rattle.step_rules.specs.Step.{Draft, start_draft, record_draft, running_with, Drafts, start_drafts, end_drafts, delete_drafts, kv_set_drafts, alias_set_drafts, alias_delete_drafts, draft_passes, drawn_id, next_head, draft_event, starts_id, is_taken}
 use Rattle.step_rules.proofs.Finding.{some_passes, none_passes, of_each}
 
@@ -63,7 +63,7 @@ closes_what_runs journal id s found = some_passes (λ (t : StartedRecord). t.id 
 -- what may stand in a draft: texts of a start within their limits, an id that runs, and no more text than one call holds
 pub data DraftFits (journal : List Entry) (draft : Draft) : Type 0 where
   start_fits : (command cwd session hostname : List ℕ) → draft ≡ start_draft command cwd session hostname → long_text (start_call command cwd session hostname) ≡ None → DraftFits journal draft
-  record_fits : (closes : Option ℕ) (payload : Payload) → draft ≡ record_draft closes payload → ((closed : ℕ) → closes ≡ Some closed → IsTrue (is_running closed (events_of journal))) → payload_bytes payload ≤ most_call_bytes → DraftFits journal draft
+  record_fits : (closes : Option ℕ) (payload : Payload) → draft ≡ record_draft closes payload → ((closed : ℕ) → closes ≡ Some closed → IsTrue (is_running closed (events_of journal))) → payload_text_bytes payload ≤ most_call_bytes → DraftFits journal draft
 
 none_closes : (journal : List Entry) (closed : ℕ) → None ≡ Some closed → IsTrue (is_running closed (events_of journal))
 none_closes journal closed some = absurd (none-some closed some)
@@ -117,7 +117,7 @@ module _ (store : KeyedStore) (journal : List Entry) (closes : Option ℕ) (payl
   closes_some closed (Some id) r is = ap Some (eqb-true id closed is)
 
   record_follows : SealsWell store → head.tag ≡ tag_of payload → head.host ≡ store.host → head.version ≡ payload_version → head.idx ≡ length (chain journal 0 head.host head.tag)
-      → ((closed : ℕ) → closes ≡ Some closed → IsTrue (is_running closed (events_of journal))) → payload_bytes payload ≤ most_call_bytes
+      → ((closed : ℕ) → closes ≡ Some closed → IsTrue (is_running closed (events_of journal))) → payload_text_bytes payload ≤ most_call_bytes
       → fits journal 0 (store.weight_of payload) (Some (record { host = head.host; tag = head.tag })) ≡ None → MayFollow journal store.host (Local closes made)
   record_follows well tag_is host_is version_is idx_is runs short room =
       let heavy : record_weight made ≡ store.weight_of payload = well.weighs head payload now random in

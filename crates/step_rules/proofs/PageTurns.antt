@@ -6,12 +6,12 @@ use Rattle.record_rules.specs.Journal.{Sound}
 use Rattle.record_rules.specs.Growth.{PageRefusal, grow, grown}
 use Rattle.record_rules.proofs.Growth.{growth_stays_sound}
 use Rattle.step_rules.specs.Turn.{settled_entry, settled}
-use Rattle.step_rules.specs.PageTurns.{PageAnswer, Stands, PageTurn, unsettled_page, taken_page, refused_page, uncommitted_page, short_page, short_settled_page}
+use Rattle.step_rules.specs.PageTurns.{PageAnswer, PageLeaves, PageTurn, unsettled_page, taken_page, refused_page, uncommitted_page, short_page, short_settled_page}
 use Rattle.step_rules.proofs.Turns.{BothSound, nothing_settled, lost_or_left}
 
 module _ (journal doubt : List Entry) (caller : Caller) (owner : ℕ) (records : List SealedRecord) (after doubt_after : List Entry) (answer : PageAnswer) where
   module _ (host : ℕ) (sound : Sound journal host) (doubted : Sound (settled journal doubt) host) where
-    stands_sound : (j d : List Entry) → Stands j d after doubt_after → Sound j host → Sound (settled j d) host → BothSound host after doubt_after
+    stands_sound : (j d : List Entry) → PageLeaves j d after doubt_after → Sound j host → Sound (settled j d) host → BothSound host after doubt_after
     stands_sound j d stands first second = (
       subst (λ k. Sound k host) (sym stands.journal_is) first,
       subst (λ k. Sound (settled k doubt_after) host) (sym stands.journal_is) (subst (λ l. Sound (settled j l) host) (sym stands.doubt_is) second),

@@ -8,7 +8,7 @@ use Rattle.record_rules.specs.Journal.{event_owner, owned_by, events_of, own_eve
 use Rattle.step_rules.specs.Calls.{Call, CallFits}
 use Rattle.step_rules.specs.Answers.{Answer, Reply}
 use Rattle.step_rules.specs.Store.{KeyedStore, SealsWell}
-use Rattle.step_rules.specs.Turn.{settled_entry, settled, Leaves, Turn, read_turn, short_read_turn, unsettled_turn, step_turn, undrawn_turn, uncommitted_turn, short_turn, short_settled_turn}
+use Rattle.step_rules.specs.Turn.{settled_entry, settled, TurnLeaves, Turn, read_turn, short_read_turn, unsettled_turn, step_turn, undrawn_turn, uncommitted_turn, short_turn, short_settled_turn}
 use Rattle.step_rules.proofs.Steps.{Step-sound, Step-adds}
 
 -- ---- soundness speaks of events alone
@@ -53,7 +53,7 @@ abbrev pub BothSound : ℕ → List Entry → List Entry → Type 0
 BothSound host journal doubt = Sound journal host × Sound (settled journal doubt) host
 
 module _ (store : KeyedStore) (journal doubt after doubt_after : List Entry) (reply : Reply) (answer : Answer) (host : ℕ) where
-  left_sound : Leaves journal doubt after doubt_after reply answer → Sound journal host → Sound (settled journal doubt) host → BothSound host after doubt_after
+  left_sound : TurnLeaves journal doubt after doubt_after reply answer → Sound journal host → Sound (settled journal doubt) host → BothSound host after doubt_after
   left_sound leaves first second = (
     subst (λ j. Sound j host) (sym leaves.journal_is) first,
     subst (λ j. Sound (settled j doubt_after) host) (sym leaves.journal_is) (subst (λ d. Sound (settled journal d) host) (sym leaves.doubt_is) second),
@@ -83,15 +83,15 @@ Turn-sound store journal doubt caller call used after doubt_after reply well ask
 
 -- ---- the front, and what is added
 
-pub record TurnLeaves (journal after : List Entry) (reply : Reply) : Type 0 where
+pub record TurnAdds (journal after : List Entry) (reply : Reply) : Type 0 where
   pub added : List Entry
   pub after_is : after ≡ journal ++ added
   pub front_is : reply.front ≡ length after
 
-left_as : (journal from doubt after doubt_after added : List Entry) (reply : Reply) (answer : Answer) → from ≡ journal ++ added → Leaves from doubt after doubt_after reply answer → TurnLeaves journal after reply
+left_as : (journal from doubt after doubt_after added : List Entry) (reply : Reply) (answer : Answer) → from ≡ journal ++ added → TurnLeaves from doubt after doubt_after reply answer → TurnAdds journal after reply
 left_as journal from doubt after doubt_after added reply answer more l = record { added = added; after_is = l.journal_is ∙ more; front_is = ap (λ (r : Reply). r.front) l.reply_is }
 
-pub Turn-leaves : (store : KeyedStore) (journal doubt : List Entry) (caller : Caller) (call : Call) (used : Used) (after doubt_after : List Entry) (reply : Reply) → Turn store journal doubt caller call used after doubt_after reply → TurnLeaves journal after reply
+pub Turn-leaves : (store : KeyedStore) (journal doubt : List Entry) (caller : Caller) (call : Call) (used : Used) (after doubt_after : List Entry) (reply : Reply) → Turn store journal doubt caller call used after doubt_after reply → TurnAdds journal after reply
 Turn-leaves store journal doubt caller call used after doubt_after reply (read_turn _ _ _ l) = left_as journal journal doubt after doubt_after [] reply _ (sym (append-nil journal)) l
 Turn-leaves store journal doubt caller call used after doubt_after reply (short_read_turn _ _ l) = left_as journal journal doubt after doubt_after [] reply _ (sym (append-nil journal)) l
 Turn-leaves store journal doubt caller call used after doubt_after reply (unsettled_turn _ _ _ _ l) = left_as journal journal doubt after doubt_after [] reply _ (sym (append-nil journal)) l

@@ -35,12 +35,12 @@ pub record KeyedStore : Type 0 where
   pub opens : Opening
 
 -- bytes of all texts of a payload together
-abbrev pub payload_bytes : Payload → ℕ
-payload_bytes (HistoryCreate h) = length h.command + length h.cwd + length h.session + length h.hostname
-payload_bytes (HistoryDelete id) = 0
-payload_bytes (KvSet namespace key value) = length namespace + length key + length value
-payload_bytes (AliasSet name value) = length name + length value
-payload_bytes (AliasDelete name) = length name
+abbrev pub payload_text_bytes : Payload → ℕ
+payload_text_bytes (HistoryCreate h) = length h.command + length h.cwd + length h.session + length h.hostname
+payload_text_bytes (HistoryDelete id) = 0
+payload_text_bytes (KvSet namespace key value) = length namespace + length key + length value
+payload_text_bytes (AliasSet name value) = length name + length value
+payload_text_bytes (AliasDelete name) = length name
 
 -- ---- what is there
 
@@ -60,4 +60,4 @@ HasAlias store journal name = (value : List ℕ) × ShowsAlias store.opens (view
 -- than a record may be.
 pub record SealsWell (store : KeyedStore) : Type 0 where
   pub weighs : (head : Head) (payload : Payload) (now : ℕ) (random : List ℕ) → record_weight (sealed_record head now (store.seal head payload random)) ≡ store.weight_of payload
-  pub light : (payload : Payload) → payload_bytes payload ≤ most_call_bytes → store.weight_of payload ≤ most_page_weight
+  pub light : (payload : Payload) → payload_text_bytes payload ≤ most_call_bytes → store.weight_of payload ≤ most_page_weight

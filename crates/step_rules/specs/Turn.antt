@@ -27,7 +27,7 @@ is_refusal (places found) = false
 is_refusal (refused refusal) = true
 
 -- these are what a turn leaves, and its reply: the answer at the journal that it leaves
-pub record Leaves (journal doubt after doubt_after : List Entry) (reply : Reply) (answer : Answer) : Type 0 where
+pub record TurnLeaves (journal doubt after doubt_after : List Entry) (reply : Reply) (answer : Answer) : Type 0 where
   pub journal_is : after ≡ journal
   pub doubt_is : doubt_after ≡ doubt
   pub reply_is : reply ≡ record { front = length after; answer = answer }
@@ -40,17 +40,17 @@ pub data UsedSome (used : Used) : Type 0 where
 -- From the journal with the commit in doubt, which is empty where there is none, the call may use so much, leave these and be answered so.
 pub data Turn (store : KeyedStore) (journal doubt : List Entry) (caller : Caller) (call : Call) (used : Used) (after doubt_after : List Entry) (reply : Reply) : Type 0 where
   -- a read doesn't settle
-  read_turn : (answer : Answer) → used ≡ used_nothing → Shows store journal call answer → Leaves journal doubt after doubt_after reply answer → Turn store journal doubt caller call used after doubt_after reply
-  short_read_turn : is_read call ≡ true → used ≡ used_nothing → Leaves journal doubt after doubt_after reply (refused no_memory) → Turn store journal doubt caller call used after doubt_after reply
+  read_turn : (answer : Answer) → used ≡ used_nothing → Shows store journal call answer → TurnLeaves journal doubt after doubt_after reply answer → Turn store journal doubt caller call used after doubt_after reply
+  short_read_turn : is_read call ≡ true → used ≡ used_nothing → TurnLeaves journal doubt after doubt_after reply (refused no_memory) → Turn store journal doubt caller call used after doubt_after reply
   -- settling failed
-  unsettled_turn : (now : ℕ) → is_read call ≡ false → doubt ≢ [] → used ≡ read_clock now → Leaves journal doubt after doubt_after reply (refused disk_fault) → Turn store journal doubt caller call used after doubt_after reply
+  unsettled_turn : (now : ℕ) → is_read call ≡ false → doubt ≢ [] → used ≡ read_clock now → TurnLeaves journal doubt after doubt_after reply (refused disk_fault) → Turn store journal doubt caller call used after doubt_after reply
   -- what was in doubt is settled, and the call is a step from there
-  step_turn : (made : List Entry) (answer : Answer) → is_read call ≡ false → Step store (settled journal doubt) caller call used made answer → Leaves made [] after doubt_after reply answer → Turn store journal doubt caller call used after doubt_after reply
+  step_turn : (made : List Entry) (answer : Answer) → is_read call ≡ false → Step store (settled journal doubt) caller call used made answer → TurnLeaves made [] after doubt_after reply answer → Turn store journal doubt caller call used after doubt_after reply
   -- the draw failed where the step would have drawn
-  undrawn_turn : (now : ℕ) (draft : Draft) → Ready store (settled journal doubt) call draft → used ≡ read_and_failed now → Leaves (settled journal doubt) [] after doubt_after reply (refused random_fault) → Turn store journal doubt caller call used after doubt_after reply
+  undrawn_turn : (now : ℕ) (draft : Draft) → Ready store (settled journal doubt) call draft → used ≡ read_and_failed now → TurnLeaves (settled journal doubt) [] after doubt_after reply (refused random_fault) → Turn store journal doubt caller call used after doubt_after reply
   -- the commit failed: it is lost, or in doubt
   uncommitted_turn : (batch left : List Entry) (answer : Answer) → is_read call ≡ false → is_refusal answer ≡ false → Step store (settled journal doubt) caller call used (settled journal doubt ++ batch) answer
-      → (left ≡ []) ⊎ (left ≡ batch) → Leaves (settled journal doubt) left after doubt_after reply (refused disk_fault) → Turn store journal doubt caller call used after doubt_after reply
+      → (left ≡ []) ⊎ (left ≡ batch) → TurnLeaves (settled journal doubt) left after doubt_after reply (refused disk_fault) → Turn store journal doubt caller call used after doubt_after reply
   -- memory was wanting, before or after settling
-  short_turn : is_read call ≡ false → UsedSome used → Leaves journal doubt after doubt_after reply (refused no_memory) → Turn store journal doubt caller call used after doubt_after reply
-  short_settled_turn : is_read call ≡ false → UsedSome used → Leaves (settled journal doubt) [] after doubt_after reply (refused no_memory) → Turn store journal doubt caller call used after doubt_after reply
+  short_turn : is_read call ≡ false → UsedSome used → TurnLeaves journal doubt after doubt_after reply (refused no_memory) → Turn store journal doubt caller call used after doubt_after reply
+  short_settled_turn : is_read call ≡ false → UsedSome used → TurnLeaves (settled journal doubt) [] after doubt_after reply (refused no_memory) → Turn store journal doubt caller call used after doubt_after reply

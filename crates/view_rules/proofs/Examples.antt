@@ -6,7 +6,7 @@ use Rattle.std.specs.List.Sorted.{IsPermutation, IsSortedBy}
 use Rattle.std.proofs.lemmas.List.Sorted.{IsPermutation-refl}
 use Rattle.std.specs.declared.cmp.Ordering.TheVariants.{Less}
 use Rattle.definitions.specs.Journal.{HistoryRecord}
-use Rattle.definitions.specs.Search.{is_shown_before, IsPage, FitsPage}
+use Rattle.definitions.specs.Search.{is_shown_before, hit_bytes, IsPage, FitsPage}
 use Rattle.definitions.proofs.Among.{HaveOwnIds-none}
 use Rattle.record_rules.specs.Records.{SealedRecord}
 use Rattle.record_rules.proofs.Members.{Has}
@@ -175,7 +175,7 @@ cond_none : (b : Bool) → cond b (firsts no_hits) no_hits ≡ no_hits
 cond_none true = refl
 cond_none false = refl
 
-page_of_none : (limit : ℕ) → IsPage limit no_hits no_hits
+page_of_none : (limit : ℕ) → IsPage hit_bytes limit no_hits no_hits
 page_of_none limit = record { rest = no_hits; front = refl; fits = (omega arith, inl (omega arith)); most = λ next others e fits. absurd cc }
 
 answer_of_none : (asked : ScopedQuery) → IsScopedAnswer asked no_hits no_hits
@@ -183,7 +183,7 @@ answer_of_none asked = record {
   in_order = no_hits;
   found = IsPermutation-refl no_hits;
   sorted = λ k d low high. absurd (omega arith);
-  cut = subst (λ (hits : List HistoryRecord). IsPage asked.query.limit hits no_hits) (sym (ap (λ (hits : List HistoryRecord). drop asked.query.offset hits) (cond_none asked.unique) ∙ drop_none asked.query.offset)) (page_of_none asked.query.limit);
+  cut = subst (λ (hits : List HistoryRecord). IsPage hit_bytes asked.query.limit hits no_hits) (sym (ap (λ (hits : List HistoryRecord). drop asked.query.offset hits) (cond_none asked.unique) ∙ drop_none asked.query.offset)) (page_of_none asked.query.limit);
 }
 
 none_answered : (records : List SealedRecord) → ((h : HistoryRecord) → ShowsHistory history_opens records h → ⊥) → (asked : ScopedQuery) → SearchAnswer history_opens records asked no_hits
@@ -358,7 +358,7 @@ newest_sorted (suc zero) d low high = refl
 newest_sorted (suc (suc k)) d low high = absurd (omega arith)
 
 -- a page of all that is left
-whole_page : (limit : ℕ) (page : List HistoryRecord) → FitsPage limit page → IsPage limit page page
+whole_page : (limit : ℕ) (page : List HistoryRecord) → FitsPage hit_bytes limit page → IsPage hit_bytes limit page page
 whole_page limit page fits = record { rest = []; front = sym (append-nil page); fits = fits; most = λ next others e more. absurd cc }
 
 pub searches : WorkedSearches

@@ -6,7 +6,8 @@ use Rattle.std.specs.Cmp.Lexicographic.{slice_cmp}
 use Rattle.std.specs.Ordering.{nat_cmp}
 use Rattle.std.specs.declared.cmp.Ordering.TheVariants.{Less}
 use Rattle.record_rules.proofs.Members.{Has}
-use Rattle.view_rules.specs.Answers.{Named, FitsList, Rises, IsAbove, IsListOf}
+use Rattle.definitions.specs.Search.{FitsPage}
+use Rattle.view_rules.specs.Answers.{Named, named_bytes, Rises, IsAbove, IsListOf}
 use Rattle.view_rules.specs.Examples.{named, is_one_of_three, WorkedLists}
 use Rattle.view_rules.proofs.Chains.{Has-from_Contains, Contains-from_Has}
 
@@ -43,8 +44,8 @@ three_rise : Rises all_three
 three_rise = ((refl, (refl, tt)), ((refl, tt), (tt, tt)))
 
 -- a page of all that is left
-whole_list : (limit : ℕ) (There : Named → Type 0) (after : List ℕ) (page : List Named) → ((item : Named) → Contains page item ↔ (There item × IsAbove after item.name)) → Rises page → FitsList limit page → IsListOf There after limit page
-whole_list limit There after page same rises fits = record { all = page; rest = []; same = same; rises = rises; front = sym (append-nil page); fits = fits; most = λ next others e more. absurd cc }
+whole_list : (limit : ℕ) (There : Named → Type 0) (after : List ℕ) (page : List Named) → ((item : Named) → Contains page item ↔ (There item × IsAbove after item.name)) → Rises page → FitsPage named_bytes limit page → IsListOf There after limit page
+whole_list limit There after page same rises fits = record { all = page; same = same; rises = rises; cut = record { rest = []; front = sym (append-nil page); fits = fits; most = λ next others e more. absurd cc } }
 
 -- ---- above a name
 
@@ -76,7 +77,7 @@ after_a = record { some = λ e. cc; above_empty = λ e. cc; above_a = λ e. cc }
 after_ab : IsBetween (codes "ab")
 after_ab = record { some = λ e. cc; above_empty = λ e. cc; above_a = λ e. cc }
 
-too_heavy : (value : List ℕ) → length value ≡ 4194303 → FitsList 10 (record { name = codes "a"; value = value } ∷ named (codes "b") ∷ []) → ⊥
+too_heavy : (value : List ℕ) → length value ≡ 4194303 → FitsPage named_bytes 10 (record { name = codes "a"; value = value } ∷ named (codes "b") ∷ []) → ⊥
 too_heavy value len fits = elim fits.1 [
   | inl few ↦ omega arith
   | inr light ↦ omega arith
@@ -87,7 +88,7 @@ lists = record {
   from_start = whole_list 10 is_one_of_three [] all_three three_same three_rise (omega arith, inr (omega arith));
   above_a = whole_list 10 is_one_of_three (codes "a") (b ∷ []) (b_same (codes "a") after_a refl) (tt, tt) (omega arith, inl (omega arith));
   above_ab = whole_list 10 is_one_of_three (codes "ab") (b ∷ []) (b_same (codes "ab") after_ab refl) (tt, tt) (omega arith, inl (omega arith));
-  limit_1 = record { all = all_three; rest = a ∷ b ∷ []; same = three_same; rises = three_rise; front = refl; fits = (omega arith, inl (omega arith)); most = λ next others e more. let many = more.0 in omega arith };
+  limit_1 = record { all = all_three; same = three_same; rises = three_rise; cut = record { rest = a ∷ b ∷ []; front = refl; fits = (omega arith, inl (omega arith)); most = λ next others e more. let many = more.0 in omega arith } };
   at_most = λ value len. (omega arith, inr (omega arith));
   above = λ value len fits. too_heavy value len fits;
   single = λ value len. (omega arith, inl (omega arith));

@@ -8,53 +8,14 @@ use Rattle.std.proofs.lemmas.Bool.Decides.{nat_tests}
 use Rattle.std.proofs.lemmas.List.Sorted.{IsPermutation-sym, sorted_far}
 use Rattle.definitions.specs.Journal.{HistoryRecord, HaveOwnIds}
 use Rattle.definitions.specs.Calls.{SearchQuery}
-use Rattle.definitions.specs.Search.{is_shown_before, IsPage, IsAnswer}
+use Rattle.definitions.specs.Search.{is_shown_before, hit_bytes, IsPage, IsAnswer}
 use Rattle.definitions.proofs.Among.{Among, Among-from_place, Contains-from_Among, Among-permutation, HaveOwnIds-filter, HaveOwnIds-permutation, HaveOwnIds-apart, HaveOwnIds-tail, InOrder, one_order}
-use Rattle.definitions.proofs.Search.{IsShownFirst, IsPage-one}
+use Rattle.definitions.proofs.Search.{IsShownFirst, IsShownFirst-strict, in_order, IsPage-one}
 use Rattle.record_rules.specs.Records.{SealedRecord}
 use Rattle.record_rules.proofs.Members.{Has, Has-filter, Has-kept}
 use Rattle.view_rules.specs.Views.{Opening}
 use Rattle.view_rules.specs.Answers.{of_all, ScopedQuery, is_found, firsts, IsScopedAnswer, SearchAnswer}
 use Rattle.view_rules.proofs.Chains.{Has-from_Contains, Contains-from_Has}
-
--- ---- the order of hits
-
-module _ (ta ia tb ib : ℕ) where
-  one_way_of : (ltb tb ta || eqb ta tb && ltb ia ib) ≡ true → (ltb ta tb || eqb tb ta && ltb ib ia) ≡ false
-  one_way_of e = grind (arith, nat_tests)
-
-  apart_of : (ltb tb ta || eqb ta tb && ltb ia ib) ≡ false → (ltb ta tb || eqb tb ta && ltb ib ia) ≡ false → ia ≢ ib → ⊥
-  apart_of e f g = grind (arith, nat_tests)
-
-  chain_of : (tc ic : ℕ) → (ltb tb ta || eqb ta tb && ltb ia ib) ≡ false → (ltb tc tb || eqb tb tc && ltb ib ic) ≡ false → (ltb tc ta || eqb ta tc && ltb ia ic) ≡ false
-  chain_of tc ic e f = grind (arith, nat_tests)
-
-shown_order : IsStrictWeakOrder is_shown_before
-shown_order = record {
-  one_way = λ a b e. one_way_of a.timestamp a.id b.timestamp b.id e;
-  chain = λ a b c e f. chain_of a.timestamp a.id b.timestamp b.id c.timestamp c.id e f;
-}
-
-strict : (a b : HistoryRecord) → IsShownFirst a b → IsShownFirst b a → ⊥
-strict a b p q = apart_of a.timestamp a.id b.timestamp b.id q.0 p.0 p.1
-
-sorted_tail : (h : HistoryRecord) (hits : List HistoryRecord) → IsSortedBy is_shown_before (h ∷ hits) → IsSortedBy is_shown_before hits
-sorted_tail h hits up k d low high =
-    let next : suc k + 1 ≡ suc (k + 1) = omega arith in
-    let there = up (suc k) d (omega arith) (omega arith) in
-    rw next at there
-
-in_order : (hits : List HistoryRecord) → IsSortedBy is_shown_before hits → HaveOwnIds (λ h. h.id) hits → InOrder HistoryRecord IsShownFirst hits
-in_order [] up own = tt
-in_order (h ∷ hits) up own = (
-  λ other m.
-      let c = Contains-from_Among HistoryRecord hits other m in
-      let far = sorted_far is_shown_before shown_order (h ∷ hits) up 0 (suc c.0) other (omega arith) (let lt = c.1 in omega arith) in
-      (subst (λ (x : HistoryRecord). is_shown_before x h ≡ false) c.2 far, HaveOwnIds-apart HistoryRecord (λ h. h.id) h hits other own m),
-  in_order hits (sorted_tail h hits up) (HaveOwnIds-tail HistoryRecord (λ h. h.id) h hits own),
-)
-
--- ---- two answers
 
 -- what a filter keeps passes
 passes_kept : (passes : HistoryRecord → Bool) (entries : List HistoryRecord) (h : HistoryRecord) → Has (filter passes entries) h → passes h ≡ true
@@ -88,12 +49,12 @@ search_one opens records asked page other p q =
     let back : (h : HistoryRecord) → Contains q.entries h → Contains p.entries h = λ h c. (p.listed.same h).1 ((q.listed.same h).0 c) in
     let p_own = HaveOwnIds-permutation HistoryRecord (λ h. h.id) mine p.answer.in_order p.answer.found (HaveOwnIds-filter HistoryRecord (λ h. h.id) (is_found asked) p.entries p.listed.own) in
     let q_own = HaveOwnIds-permutation HistoryRecord (λ h. h.id) yours q.answer.in_order q.answer.found (HaveOwnIds-filter HistoryRecord (λ h. h.id) (is_found asked) q.entries q.listed.own) in
-    let same : p.answer.in_order ≡ q.answer.in_order = one_order HistoryRecord IsShownFirst strict p.answer.in_order q.answer.in_order
+    let same : p.answer.in_order ≡ q.answer.in_order = one_order HistoryRecord IsShownFirst IsShownFirst-strict p.answer.in_order q.answer.in_order
     (in_order p.answer.in_order p.answer.sorted p_own) (in_order q.answer.in_order q.answer.sorted q_own)
     (λ h m. moved (is_found asked) p.entries q.entries p.answer.in_order q.answer.in_order over p.answer.found q.answer.found h m)
     (λ h m. moved (is_found asked) q.entries p.entries q.answer.in_order p.answer.in_order back q.answer.found p.answer.found h m) in
     let hits = λ (hits : List HistoryRecord). drop asked.query.offset (cond asked.unique (firsts hits) hits) in
-    IsPage-one asked.query.limit (hits q.answer.in_order) page other (subst (λ (ordered : List HistoryRecord). IsPage asked.query.limit (hits ordered) page) same p.answer.cut) q.answer.cut
+    IsPage-one hit_bytes asked.query.limit (hits q.answer.in_order) page other (subst (λ (ordered : List HistoryRecord). IsPage hit_bytes asked.query.limit (hits ordered) page) same p.answer.cut) q.answer.cut
 
 -- ---- the plain search
 

@@ -62,12 +62,9 @@ module _ (opens : Opening) (records others : List SealedRecord) (there : Into re
 list_there : (There Other : Named → Type 0) (after : List ℕ) (limit : ℕ) (page : List Named) → ((item : Named) → There item → Other item) → ((item : Named) → Other item → There item) → IsListOf There after limit page → IsListOf Other after limit page
 list_there There Other after limit page there back p = record {
   all = p.all;
-  rest = p.rest;
   same = λ item. (λ m. let h = (p.same item).0 m in (there item h.0, h.1), λ h. (p.same item).1 (back item h.0, h.1));
   rises = p.rises;
-  front = p.front;
-  fits = p.fits;
-  most = p.most;
+  cut = p.cut;
 }
 
 module _ (opens : Opening) (records others : List SealedRecord) (there : Into records others) (back : Into others records) where

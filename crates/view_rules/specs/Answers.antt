@@ -7,7 +7,7 @@ use Rattle.std.specs.Ordering.{nat_cmp}
 use Rattle.std.specs.Cmp.Lexicographic.{slice_cmp}
 use Rattle.definitions.specs.Calls.{SearchQuery}
 use Rattle.definitions.specs.Journal.{HistoryRecord, HaveOwnIds}
-use Rattle.definitions.specs.Search.{most_hit_bytes, matches_by, is_shown_before, IsPage}
+use Rattle.definitions.specs.Search.{matches_by, is_shown_before, hit_bytes, IsPage}
 use Rattle.record_rules.specs.Records.{SealedRecord}
 use Rattle.view_rules.specs.Views.{Opening, ShowsHistory, ShowsKv, ShowsAlias}
 
@@ -46,7 +46,7 @@ pub record IsScopedAnswer (asked : ScopedQuery) (entries page : List HistoryReco
   pub in_order : List HistoryRecord
   pub found : IsPermutation (filter (is_found asked) entries) in_order
   pub sorted : IsSortedBy is_shown_before in_order
-  pub cut : IsPage asked.query.limit (drop asked.query.offset (cond asked.unique (firsts in_order) in_order)) page
+  pub cut : IsPage hit_bytes asked.query.limit (drop asked.query.offset (cond asked.unique (firsts in_order) in_order)) page
 
 -- the list has each command of the history view once, and no other
 pub record ListsHistory (opens : Opening) (records : List SealedRecord) (entries : List HistoryRecord) : Type 0 where
@@ -73,10 +73,6 @@ pub record Named : Type 0 where
 abbrev pub named_bytes : Named → ℕ
 named_bytes item = length item.name + length item.value
 
--- names that one reply may show
-abbrev pub FitsList : ℕ → List Named → Type 0
-FitsList limit items = (length items ≤ limit) × ((length items ≤ 1) ⊎ (sum_by named_bytes items ≤ most_hit_bytes))
-
 -- each name stands below all later ones
 abbrev pub Rises : List Named → Type 0
 Rises [] = Unit {0}
@@ -85,12 +81,9 @@ Rises (item ∷ items) = AllByRecursion (λ (later : Named). slice_cmp nat_cmp i
 -- of the names that are there, those above `after` in rising order, as many of the first as one reply may show
 pub record IsListOf (There : Named → Type 0) (after : List ℕ) (limit : ℕ) (page : List Named) : Type 0 where
   pub all : List Named
-  pub rest : List Named
   pub same : (item : Named) → Contains all item ↔ (There item × IsAbove after item.name)
   pub rises : Rises all
-  pub front : all ≡ page ++ rest
-  pub fits : FitsList limit page
-  pub most : (next : Named) (others : List Named) → rest ≡ next ∷ others → FitsList limit (page ++ next ∷ []) → ⊥
+  pub cut : IsPage named_bytes limit all page
 
 -- the keys of a namespace that have a value; the values aren't shown
 abbrev pub IsKey : Opening → List SealedRecord → (namespace : List ℕ) → Named → Type 0

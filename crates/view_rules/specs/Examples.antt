@@ -5,7 +5,8 @@ use Rattle.definitions.specs.Journal.{HistoryRecord}
 use Rattle.record_rules.specs.Records.{SealedRecord}
 use Rattle.payload_rules.specs.Payloads.{Payload, HistoryCreate, HistoryDelete, KvSet, AliasSet, AliasDelete, history_tag, kv_tag, alias_tag, payload_version}
 use Rattle.view_rules.specs.Views.{Opening, ShowsHistory, ShowsKv, ShowsAlias}
-use Rattle.view_rules.specs.Answers.{Scope, of_all, of_session, ScopedQuery, is_found, IsScopedAnswer, SearchAnswer, Named, FitsList, IsListOf}
+use Rattle.definitions.specs.Search.{FitsPage}
+use Rattle.view_rules.specs.Answers.{Scope, of_all, of_session, ScopedQuery, is_found, IsScopedAnswer, SearchAnswer, Named, named_bytes, IsListOf}
 
 -- ---- records that open by their id
 
@@ -177,6 +178,6 @@ pub record WorkedLists : Type 0 where
   -- one at a time
   pub limit_1 : IsListOf is_one_of_three [] 1 (named [] ∷ [])
   -- names and values of 4,194,304 bytes together are shown, of one byte more not, but for a single one
-  pub at_most : (value : List ℕ) → length value ≡ 4194302 → FitsList 10 (record { name = codes "a"; value = value } ∷ named (codes "b") ∷ [])
-  pub above : (value : List ℕ) → length value ≡ 4194303 → FitsList 10 (record { name = codes "a"; value = value } ∷ named (codes "b") ∷ []) → ⊥
-  pub single : (value : List ℕ) → length value ≡ 5000000 → FitsList 10 (record { name = codes "a"; value = value } ∷ [])
+  pub at_most : (value : List ℕ) → length value ≡ 4194302 → FitsPage named_bytes 10 (record { name = codes "a"; value = value } ∷ named (codes "b") ∷ [])
+  pub above : (value : List ℕ) → length value ≡ 4194303 → FitsPage named_bytes 10 (record { name = codes "a"; value = value } ∷ named (codes "b") ∷ []) → ⊥
+  pub single : (value : List ℕ) → length value ≡ 5000000 → FitsPage named_bytes 10 (record { name = codes "a"; value = value } ∷ [])

@@ -1,26 +1,30 @@
 -- The examples, computed.
-use Rattle.std.proofs.Common.{◌≡◌, ℕ, false, ◌||◌, cond, inl, inr, List, [], ◌∷◌, length, Option, Some, None, refl, sym, ◌∙◌, ap, subst, arith}
-use Rattle.std.specs.Prelude.{◌+◌, pos, nat_lt, codes, drop, sum_by}
+use Rattle.std.proofs.Common.{◌≡◌, ℕ, false, ◌||◌, cond, inl, inr, List, [], ◌∷◌, length, Option, Some, None, Result, Ok, Err, refl, sym, ◌∙◌, ap, subst, arith}
+use Rattle.std.specs.Prelude.{◌+◌, ◌<◌, ◌^◌, pos, nat_lt, codes, take, drop, sum_by}
 use Rattle.std.specs.Option.{option_or}
-use Rattle.std.proofs.lemmas.Bool.{eq-eqb}
+use Rattle.std.proofs.lemmas.Bool.{eq-eqb, true≢false}
+use Rattle.std.proofs.lemmas.Option.{none-some}
+use Rattle.definitions.specs.Journal.{HistoryRecord}
 use Rattle.std.specs.List.{Contains}
-use Rattle.definitions.specs.Step.{read_and_drew}
-use Rattle.payload_rules.specs.Payloads.{Payload, HistoryCreate, KvSet, history_tag}
+use Rattle.definitions.specs.Step.{Used, used_nothing, read_clock, read_and_drew}
+use Rattle.payload_rules.specs.Payloads.{Payload, HistoryCreate, HistoryDelete, KvSet, AliasSet, history_tag, payload_version}
 use Rattle.record_rules.specs.Limits.{most_value_bytes, most_name_bytes, most_held_weight}
 use Rattle.record_rules.specs.Records.{SealedRecord, Entry, Local, event_weight}
-use Rattle.record_rules.specs.Journal.{ChainCount, own_events, entries_passed, weight_passed, places_passed, fits, status}
+use Rattle.record_rules.specs.Growth.{PageRefusal, PageGap}
+use Rattle.record_rules.specs.Journal.{ChainCount, chain, own_events, entries_passed, weight_passed, places_passed, fits, status}
 use Rattle.std.specs.declared.cmp.Ordering.TheVariants.{Less}
 use Rattle.std.specs.Ordering.{ordering_reverse}
 use Rattle.std.specs.Cmp.{IsTotalOrder}
 use Rattle.std.proofs.lemmas.Cmp.{then_total, on_total, nat_cmp_total}
-use Rattle.view_rules.specs.Views.{ShowsKv, time_cmp}
+use Rattle.view_rules.specs.Views.{ShowsHistory, Dead, by_deletion, by_creation, ShowsKv, NamesAlias, ShowsAlias, origin_cmp, time_cmp}
 use Rattle.view_rules.proofs.Chains.{Has-from_Contains}
 use Rattle.step_rules.specs.Calls.{end_call, of_name, of_value, first_long}
-use Rattle.step_rules.specs.Answers.{id_taken, began, stored, value_is, places, refused}
+use Rattle.step_rules.specs.Answers.{Refusal, unknown_id, id_taken, disk_fault, no_memory, Answer, began, stored, value_is, places, refused, Reply}
 use Rattle.step_rules.specs.Store.{KeyedStore, SealsWell}
-use Rattle.step_rules.specs.Step.{start_draft, record_draft, start_drafts, end_drafts, end_unknown, alias_unknown, draft_passes, Ready, Step, long_step, unknown_step, full_step, taken_step, append_step, shows_value, shows_no_value, shows_places}
-use Rattle.step_rules.specs.Turn.{read_turn, unsettled_turn, undrawn_turn, step_turn, uncommitted_turn}
-use Rattle.step_rules.specs.Examples.{end_id, end_head, end_record, end_settled, first_time, second_time, ten_bytes, first_id, call_of, ls_call, ls, ls_entry, ls_ended, end_entry, OfExample, WorkedCommand, WorkedTexts, WorkedViews, WorkedDoubt}
+use Rattle.step_rules.specs.Step.{Draft, start_draft, record_draft, Drafts, start_drafts, end_drafts, delete_drafts, kv_set_drafts, alias_set_drafts, alias_delete_drafts, Unknown, end_unknown, delete_unknown, alias_unknown, draft_passes, Ready, draws, Step, long_step, unknown_step, full_step, taken_step, append_step, read_step, shows_value, shows_no_value, shows_places}
+use Rattle.step_rules.specs.Turn.{is_refusal, UsedSome, used_clock, used_bytes, Turn, read_turn, short_read_turn, unsettled_turn, undrawn_turn, step_turn, uncommitted_turn, short_turn, short_settled_turn}
+use Rattle.step_rules.specs.PageTurns.{page_faulted, PageTurn, unsettled_page, taken_page, refused_page, uncommitted_page, short_page, short_settled_page}
+use Rattle.step_rules.specs.Examples.{end_id, end_head, end_record, end_settled, first_time, second_time, ten_bytes, first_id, call_of, ls_call, ls, ls_entry, ls_ended, end_entry, OfExample, one_made, second_taken, WorkedCommand, WorkedTexts, WorkedViews, WorkedDrafts, WorkedAsked, WorkedDoubt, WorkedPageTurns}
 
 ls_ready : (store : KeyedStore) (journal : List Entry) → draft_passes store journal (start_draft (codes "ls") (codes "/") (codes "s1") (codes "h:u")) ≡ None → Ready store journal ls_call (start_draft (codes "ls") (codes "/") (codes "s1") (codes "h:u"))
 ls_ready store journal room = record { short = refl; drafts = start_drafts _ _ _ _ refl refl; room = room }
@@ -46,6 +50,8 @@ commands = record {
       (record { short = refl; drafts = end_drafts first_id (pos 1000) (pos 0) ls refl refl refl; room = end_room store of_example })
       (ap (λ b. b || false) (eq-eqb r.id (end_id drawn) same)) (record { stays = refl; answer_is = refl });
   is_full = λ store journal passes. full_step first_time (start_draft (codes "ls") (codes "/") (codes "s1") (codes "h:u")) _ refl refl (start_drafts _ _ _ _ refl refl) passes (record { stays = refl; answer_is = refl });
+  other_runs = λ store. unknown_step second_time _ refl (end_unknown 7 (pos 1000) (pos 0) refl refl refl) (record { stays = refl; answer_is = refl });
+  starts_beside = λ store r same. append_step first_time ten_bytes (start_draft (codes "ls") (codes "/") (codes "s1") (codes "h:u")) refl refl (ls_ready store _ refl) refl refl refl;
   ends_again = λ store drawn. unknown_step second_time _ refl (end_unknown first_id (pos 1000) (pos 0) refl refl refl) (record { stays = refl; answer_is = refl });
   never_ran = λ store. unknown_step first_time _ refl (end_unknown _ (pos 0) (pos 0) refl refl refl) (record { stays = refl; answer_is = refl });
   starts_at_one = λ store. step_turn (ls_entry ∷ []) (began first_id) refl (ls_starts store) (record { journal_is = refl; doubt_is = refl; reply_is = refl });
@@ -114,6 +120,135 @@ views = record {
   no_value = λ store r opened. read_turn (value_is None) refl (shows_no_value (codes "n") (codes "other") refl (not_shown store r opened) refl) (record { journal_is = refl; doubt_is = refl; reply_is = refl });
 }
 
+abbrev created_id : Option Payload → ℕ
+created_id (Some (HistoryCreate h)) = h.id
+created_id _ = 0
+
+abbrev deleted_time : Option Payload → Option ℕ
+deleted_time (Some (HistoryCreate h)) = h.deleted_at
+deleted_time _ = None
+
+abbrev first_code : Option Payload → ℕ
+first_code (Some (AliasSet (code ∷ name) value)) = code
+first_code _ = 0
+
+-- no record comes before itself
+origin_total : IsTotalOrder origin_cmp
+origin_total = then_total (on_total (λ (r : SealedRecord). r.host) nat_cmp_total) (on_total (λ (r : SealedRecord). r.idx) nat_cmp_total)
+
+not_before_itself : (r : SealedRecord) → origin_cmp r r ≡ Less → ⊥
+not_before_itself r before = absurd (let turned : Less ≡ ordering_reverse Less = sym before ∙ origin_total.antisymm r r ∙ ap ordering_reverse before in cc)
+
+module _ (store : KeyedStore) (r : SealedRecord) (opened : store.opens r ≡ Some (HistoryCreate ls_ended)) where
+  opens_so : (s : SealedRecord) → Contains (r ∷ []) s → store.opens s ≡ Some (HistoryCreate ls_ended)
+  opens_so s among = sym (ap store.opens (only_one r s among)) ∙ opened
+
+  not_dead : (id : ℕ) → Dead store.opens (r ∷ []) id → ⊥
+  not_dead id (by_deletion s among deletes) = absurd (let same : Some (HistoryCreate ls_ended) ≡ Some (HistoryDelete id) = sym (opens_so s among) ∙ deletes in cc)
+  not_dead id (by_creation s h time made is deleted) =
+      let same : Some (HistoryCreate ls_ended) ≡ Some (HistoryCreate h) = sym (opens_so s made.among) ∙ made.opened in
+      none-some time (ap deleted_time same ∙ deleted)
+
+  command_shown : ShowsHistory store.opens (r ∷ []) ls_ended
+  command_shown = (
+    r,
+    record {
+      created = record { among = (0, omega arith, refl); opened = opened };
+      alive = not_dead first_id;
+      first = λ s other made is before. not_before_itself r (subst (λ t. origin_cmp t r ≡ Less) (sym (only_one r s made.among)) before);
+    },
+  )
+
+  no_other : ((h : HistoryRecord) × ShowsHistory store.opens (r ∷ []) h × (h.id ≡ 7)) → ⊥
+  no_other found =
+      let same : Some (HistoryCreate ls_ended) ≡ Some (HistoryCreate found.0) = sym (opens_so found.1.0 found.1.1.created.among) ∙ found.1.1.created.opened in
+      let id_is : first_id ≡ 7 = ap created_id same ∙ found.2 in
+      omega (arith, id_is)
+
+module _ (store : KeyedStore) (r : SealedRecord) (opened : store.opens r ≡ Some (AliasSet (codes "g") (codes "v"))) where
+  only_named : (s : SealedRecord) → NamesAlias store.opens (r ∷ []) (codes "g") s → r ≡ s
+  only_named s (inl sets) = only_one r s sets.1.among
+  only_named s (inr ends) = only_one r s ends.among
+
+  alias_shown : ShowsAlias store.opens (r ∷ []) (codes "g") (codes "v")
+  alias_shown = (
+    r,
+    record {
+      set = record { among = (0, omega arith, refl); opened = opened };
+      last = λ s names later. not_after_itself r (subst (λ t. time_cmp r t ≡ Less) (sym (only_named s names)) later);
+    },
+  )
+
+  no_other_name : ((value : List ℕ) × ShowsAlias store.opens (r ∷ []) (codes "v") value) → ⊥
+  no_other_name found =
+      let here = only_one r found.1.0 found.1.1.set.among in
+      let same : Some (AliasSet (codes "g") (codes "v")) ≡ Some (AliasSet (codes "v") found.0) = sym opened ∙ ap store.opens here ∙ found.1.1.set.opened in
+      let first : ◌≡◌ {A = ℕ} 103 118 = ap first_code same in
+      omega arith
+
+one_reading : (now : ℕ) → read_clock now ≡ used_nothing → ⊥
+one_reading now e = let same : ◌≡◌ {A = ℕ} 1 0 = ap (λ (u : Used). length u.readings) e in omega arith
+
+-- an End of what doesn't run is told just that
+no_end_drafts : (store : KeyedStore) (draft : Draft) → Drafts store [] (end_call 7 (pos 0) (pos 0)) draft → ⊥
+no_end_drafts store draft (start_drafts _ _ _ _ e _) = absurd cc
+no_end_drafts store draft (end_drafts _ _ _ s _ runs _) = none-some s runs
+no_end_drafts store draft (delete_drafts _ e _ _) = absurd cc
+no_end_drafts store draft (kv_set_drafts _ _ _ e _) = absurd cc
+no_end_drafts store draft (alias_set_drafts _ _ e _) = absurd cc
+no_end_drafts store draft (alias_delete_drafts _ e _ _) = absurd cc
+
+unknown_told : (store : KeyedStore) (refusal : Refusal) → Unknown store [] (end_call 7 (pos 0) (pos 0)) refusal → (id : ℕ) × (refusal ≡ unknown_id id)
+unknown_told store refusal (end_unknown id _ _ _ _ is) = (id, is)
+unknown_told store refusal (delete_unknown _ e _ _) = absurd cc
+unknown_told store refusal (alias_unknown _ e _ _) = absurd cc
+
+end_told : (store : KeyedStore) (after : List Entry) (answer : Answer) → Step store [] (call_of 1) (end_call 7 (pos 0) (pos 0)) (read_clock first_time) after answer → (id : ℕ) × (answer ≡ refused (unknown_id id))
+end_told store after answer (long_step _ long _ is _) = absurd (none-some long is)
+end_told store after answer (unknown_step _ refusal _ unknown refuses) = let told = unknown_told store refusal unknown in (told.0, refuses.answer_is ∙ ap refused told.1)
+end_told store after answer (full_step _ draft _ _ _ drafts _ _) = absurd (no_end_drafts store draft drafts)
+end_told store after answer (taken_step _ _ draft _ _ ready _ _) = absurd (no_end_drafts store draft ready.drafts)
+end_told store after answer (append_step _ _ draft _ _ ready _ _ _) = absurd (no_end_drafts store draft ready.drafts)
+end_told store after answer (read_step e _ _) = absurd (one_reading first_time e)
+
+no_fault_told : (store : KeyedStore) (after doubt_after : List Entry) (front : ℕ) → Turn store [] [] (call_of 1) (end_call 7 (pos 0) (pos 0)) (read_clock first_time) after doubt_after (record { front = front; answer = refused disk_fault }) → ⊥
+no_fault_told store after doubt_after front (read_turn _ e _ _) = one_reading first_time e
+no_fault_told store after doubt_after front (short_read_turn e _ _) = absurd cc
+no_fault_told store after doubt_after front (unsettled_turn _ _ some _ _) = some refl
+no_fault_told store after doubt_after front (step_turn made answer _ step leaves) =
+    let told = end_told store made answer step in
+    let same : refused disk_fault ≡ refused (unknown_id told.0) = ap (λ (r : Reply). r.answer) leaves.reply_is ∙ told.1 in
+    absurd cc
+no_fault_told store after doubt_after front (undrawn_turn _ draft ready _ _) = no_end_drafts store draft ready.drafts
+no_fault_told store after doubt_after front (uncommitted_turn batch _ answer _ denies step _ _) = let told = end_told store batch answer step in true≢false (sym (ap is_refusal told.1) ∙ denies)
+no_fault_told store after doubt_after front (short_turn _ _ leaves) = absurd (let same : refused disk_fault ≡ refused no_memory = ap (λ (r : Reply). r.answer) leaves.reply_is in cc)
+no_fault_told store after doubt_after front (short_settled_turn _ _ leaves) = absurd (let same : refused disk_fault ≡ refused no_memory = ap (λ (r : Reply). r.answer) leaves.reply_is in cc)
+
+clock_was_read : (used : Used) → UsedSome used → used ≡ used_nothing → ⊥
+clock_was_read used (used_clock now e) none = one_reading now (sym e ∙ none)
+clock_was_read used (used_bytes now _ drawn _ e) none = let same : ◌≡◌ {A = ℕ} 1 0 = ap (λ (u : Used). length u.readings) (sym e ∙ none) in omega arith
+
+some_drawn : (draft : Draft) → draws draft ≡ 9 → ⊥
+some_drawn (start_draft _ _ _ _) nine = omega arith
+some_drawn (record_draft _ _) nine = omega arith
+
+not_nine_drawn : (used : Used) → UsedSome used → length used.drawn ≡ 9 → ⊥
+not_nine_drawn used (used_clock now e) nine = absurd (let none : length used.drawn ≡ 0 = ap (λ (u : Used). length u.drawn) e in omega arith)
+not_nine_drawn used (used_bytes now draft drawn many e) nine = some_drawn draft (sym many ∙ sym (ap (λ (u : Used). length u.drawn) e) ∙ nine)
+
+-- a page of no records can only be taken or want memory, where nothing is in doubt
+abbrev batch_of : Result (List Entry) PageRefusal → List Entry
+batch_of (Ok batch) = batch
+batch_of (Err refusal) = []
+
+no_page_fault : (after doubt_after : List Entry) → PageTurn [] [] (call_of 1) 5 [] after doubt_after page_faulted → ⊥
+no_page_fault after doubt_after (unsettled_page some _ _) = some refl
+no_page_fault after doubt_after (taken_page _ _ _ e) = absurd cc
+no_page_fault after doubt_after (refused_page _ _ _ e) = absurd cc
+no_page_fault after doubt_after (uncommitted_page batch _ is some _ _ _) = some (ap batch_of (sym is))
+no_page_fault after doubt_after (short_page _ e) = absurd cc
+no_page_fault after doubt_after (short_settled_page _ e) = absurd cc
+
 -- with a host of 1 the end stands in that host's chain
 abbrev status_with : KeyedStore → List ℕ → ℕ → List ChainCount
 status_with store drawn host = status (ls_entry ∷ record { caller = record { number = 0; call = 2; settled_for = 1 }; event = Local (Some first_id) (record (end_record store drawn) { host = host }) } ∷ []) 0
@@ -142,4 +277,75 @@ doubt = record {
   stays_in_doubt = λ store drawn. unsettled_turn second_time refl (λ e. cc) refl (record { journal_is = refl; doubt_is = refl; reply_is = refl });
   not_drawn = λ store. undrawn_turn first_time _ (ls_ready store [] refl) refl (record { journal_is = refl; doubt_is = refl; reply_is = refl });
   again = λ store drawn of_example many. step_turn (ls_entry ∷ end_entry store drawn ∷ []) (stored 0) refl (ls_ends store drawn of_example many) (record { journal_is = refl; doubt_is = refl; reply_is = refl });
+  short_read = λ store drawn. short_read_turn refl refl (record { journal_is = refl; doubt_is = refl; reply_is = refl });
+  short = λ store drawn. short_turn refl (used_clock second_time refl) (record { journal_is = refl; doubt_is = refl; reply_is = refl });
+  short_settled = λ store drawn. short_settled_turn refl (used_bytes first_time (start_draft (codes "ls") (codes "/") (codes "s1") (codes "h:u")) ten_bytes refl refl) (record { journal_is = refl; doubt_is = refl; reply_is = refl });
+  clock_unread = λ used. clock_was_read used_nothing used refl;
+  nine_drawn = λ used. not_nine_drawn (read_and_drew first_time (take 9 ten_bytes)) used refl;
+  no_fault = no_fault_told;
+}
+
+pub drafts : WorkedDrafts
+drafts = record {
+  sets_key = λ store. kv_set_drafts _ _ _ refl refl;
+  sets_alias = λ store. alias_set_drafts _ _ refl refl;
+  deletes = λ store r opened. delete_drafts first_id refl (ls_ended, command_shown store r opened, refl) refl;
+  no_command = λ store r opened. unknown_step first_time _ refl (delete_unknown 7 refl (no_other store r opened) refl) (record { stays = refl; answer_is = refl });
+  deletes_alias = λ store r opened. alias_delete_drafts (codes "g") refl (codes "v", alias_shown store r opened) refl;
+  no_name = λ store r opened. unknown_step first_time _ refl (alias_unknown (codes "v") refl (no_other_name store r opened) refl) (record { stays = refl; answer_is = refl });
+  next_idx = λ store id of_example. ap (λ host. record { id = id; idx = length (chain (one_made ∷ []) 0 host history_tag); version = payload_version; tag = history_tag; host = host }) of_example.host;
+  next_told = λ store id of_example. ap (λ host. stored (length (chain (one_made ∷ []) 0 host history_tag))) of_example.host;
+  takes_place = λ store of_example. ap (λ host. Some (record { host = host; tag = history_tag })) of_example.host;
+  takes_none = λ store. refl;
+}
+
+pub asked : WorkedAsked
+asked = record {
+  id_at_most = record { numbers = omega arith; texts = omega arith };
+  id_above = λ fits. let h = fits.numbers in omega arith;
+  end_id_above = λ fits. let h = fits.numbers.0 in omega arith;
+  end_at_most = record { numbers = (omega arith, record { sfits = omega arith }, record { sfits = omega arith }); texts = omega arith };
+  duration_above = λ fits. let h : 2 ^ 63 < 2 ^ 63 = fits.numbers.1.sfits in omega arith;
+  status_below = λ fits. let h : 2 ^ 63 < 2 ^ 63 = fits.numbers.2.sfits in omega arith;
+  one_key = record { numbers = (omega arith, omega arith); texts = omega arith };
+  keys_at_most = record { numbers = (omega arith, omega arith); texts = omega arith };
+  no_keys = λ fits. let h = fits.numbers.0 in omega arith;
+  keys_above = λ fits. let h = fits.numbers.1 in omega arith;
+  aliases_above = λ fits. let h = fits.numbers.1 in omega arith;
+  hits_above = λ fits. let h = fits.numbers.1.1 in omega arith;
+  offset_at_most = record { numbers = (omega arith, (omega arith, omega arith)); texts = omega arith };
+  offset_above = λ fits. let h = fits.numbers.0 in omega arith;
+  texts_at_most = λ text long. record { numbers = (omega arith, (omega arith, omega arith)); texts = omega (arith, long) };
+  texts_above = λ text long fits. let h = fits.texts in omega (arith, long);
+  of_start = refl;
+  of_end = refl;
+  of_delete = refl;
+  of_search = refl;
+  of_host_search = refl;
+  of_session_search = refl;
+  of_kv_set = refl;
+  of_kv_get = refl;
+  of_kv_list = refl;
+  of_alias_set = refl;
+  of_alias_delete = refl;
+  of_alias_list = refl;
+  of_status = refl;
+  of_creation = refl;
+  of_deletion = refl;
+  of_value = refl;
+  of_alias = refl;
+  of_ending = refl;
+}
+
+pub page_turns : WorkedPageTurns
+page_turns = record {
+  taken = taken_page (second_taken ∷ []) refl (record { journal_is = refl; doubt_is = refl }) refl;
+  taken_again = taken_page [] refl (record { journal_is = refl; doubt_is = refl }) refl;
+  gap = refused_page (PageGap 0 1) refl (record { journal_is = refl; doubt_is = refl }) refl;
+  stays_in_doubt = unsettled_page (λ e. cc) (record { journal_is = refl; doubt_is = refl }) refl;
+  in_doubt = uncommitted_page (second_taken ∷ []) (second_taken ∷ []) refl (λ e. cc) (inr refl) (record { journal_is = refl; doubt_is = refl }) refl;
+  lost = uncommitted_page (second_taken ∷ []) [] refl (λ e. cc) (inl refl) (record { journal_is = refl; doubt_is = refl }) refl;
+  short = short_page (record { journal_is = refl; doubt_is = refl }) refl;
+  short_settled = short_settled_page (record { journal_is = refl; doubt_is = refl }) refl;
+  no_fault = no_page_fault;
 }

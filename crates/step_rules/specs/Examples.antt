@@ -1,16 +1,21 @@
 -- Worked examples: steps and turns of a small journal, with the numbers written out.
-use Rattle.std.specs.Prelude.{◌≡◌, ℕ, ◌-◌, ◌^◌, pos, List, [], ◌∷◌, length, take, drop, codes, Some, None}
+use Rattle.std.specs.Prelude.{◌≡◌, ℕ, ◌-◌, ◌^◌, pos, negsuc, List, [], ◌∷◌, length, take, drop, codes, Some, None, false}
 use Rattle.definitions.specs.Ids.{made_id}
+use Rattle.definitions.specs.Calls.{by_prefix}
 use Rattle.definitions.specs.Journal.{StartedRecord, HistoryRecord}
 use Rattle.definitions.specs.Step.{used_nothing, read_clock, read_and_drew, read_and_failed}
-use Rattle.payload_rules.specs.Payloads.{HistoryCreate, KvSet, history_tag}
+use Rattle.payload_rules.specs.Payloads.{HistoryCreate, HistoryDelete, KvSet, AliasSet, AliasDelete, history_tag}
 use Rattle.record_rules.specs.Records.{SealedRecord, Caller, Entry, Started, Local, Taken}
 use Rattle.record_rules.specs.Journal.{fits}
-use Rattle.step_rules.specs.Calls.{Call, start_call, end_call, kv_set_call, kv_get_call, alias_set_call, alias_delete_call, status_call, long_text}
-use Rattle.step_rules.specs.Answers.{too_long, unknown_id, unknown_name, full, random_fault, id_taken, disk_fault, began, stored, value_is, places, refused}
-use Rattle.step_rules.specs.Store.{Head, Seal, KeyedStore, SealsWell}
-use Rattle.step_rules.specs.Step.{Step}
-use Rattle.step_rules.specs.Turn.{Turn}
+use Rattle.record_rules.specs.Growth.{PageGap}
+use Rattle.record_rules.specs.Examples.{kv_record, placed_record}
+use Rattle.view_rules.specs.Answers.{Scope, of_all, of_hostname, of_session, of_cwd}
+use Rattle.step_rules.specs.Calls.{Call, start_call, end_call, delete_call, search_call, kv_set_call, kv_get_call, kv_list_call, alias_set_call, alias_delete_call, alias_list_call, status_call, long_text, call_bytes, CallFits}
+use Rattle.step_rules.specs.Answers.{too_long, unknown_id, unknown_name, full, random_fault, id_taken, disk_fault, no_memory, began, stored, value_is, places, refused}
+use Rattle.step_rules.specs.Store.{Head, Seal, KeyedStore, payload_bytes, SealsWell}
+use Rattle.step_rules.specs.Step.{start_draft, record_draft, Drafts, draft_place, next_head, draft_answer, Step}
+use Rattle.step_rules.specs.Turn.{UsedSome, Turn}
+use Rattle.step_rules.specs.PageTurns.{took, page_refused, page_faulted, page_unheld, PageTurn}
 
 -- ---- a command of host 1 that starts, and ends
 
@@ -78,6 +83,10 @@ pub record WorkedCommand : Type 0 where
   pub ends : (store : KeyedStore) (drawn : List ℕ) → OfExample store → length drawn ≡ 106 → Step store (ls_entry ∷ []) (call_of 2) (end_call first_id (pos 1000) (pos 0)) (read_and_drew second_time drawn) (ls_entry ∷ end_entry store drawn ∷ []) (stored 0)
   -- and once it has ended it runs no more
   pub ends_again : (store : KeyedStore) (drawn : List ℕ) → Step store (ls_entry ∷ end_entry store drawn ∷ []) (call_of 3) (end_call first_id (pos 1000) (pos 0)) (read_clock second_time) (ls_entry ∷ end_entry store drawn ∷ []) (refused (unknown_id first_id))
+  -- and an id that is not the one that runs
+  pub other_runs : (store : KeyedStore) → Step store (ls_entry ∷ []) (call_of 2) (end_call 7 (pos 1000) (pos 0)) (read_clock second_time) (ls_entry ∷ []) (refused (unknown_id 7))
+  -- a record with the id that a start draws refuses nothing
+  pub starts_beside : (store : KeyedStore) (r : SealedRecord) → r.id ≡ first_id → Step store (record { caller = call_of 2; event = Taken 5 r } ∷ []) (call_of 1) ls_call (read_and_drew first_time ten_bytes) (record { caller = call_of 2; event = Taken 5 r } ∷ ls_entry ∷ []) (began first_id)
   -- a record of any owner may have the drawn id already
   pub end_taken : (store : KeyedStore) (drawn : List ℕ) (r : SealedRecord) → OfExample store → length drawn ≡ 106 → r.id ≡ end_id drawn → Step store (ls_entry ∷ record { caller = call_of 2; event = Taken 5 r } ∷ []) (call_of 3) (end_call first_id (pos 1000) (pos 0)) (read_and_drew second_time drawn) (ls_entry ∷ record { caller = call_of 2; event = Taken 5 r } ∷ []) (refused (id_taken (end_id drawn)))
   -- where the owner is full nothing is drawn
@@ -110,6 +119,73 @@ pub record WorkedViews : Type 0 where
   pub a_value : (store : KeyedStore) (r : SealedRecord) → store.opens r ≡ Some (KvSet (codes "n") (codes "k") (codes "v")) → Turn store (record { caller = call_of 1; event = Local None r } ∷ []) [] (call_of 2) (kv_get_call (codes "n") (codes "k")) used_nothing (record { caller = call_of 1; event = Local None r } ∷ []) [] (record { front = 1; answer = value_is (Some (codes "v")) })
   pub no_value : (store : KeyedStore) (r : SealedRecord) → store.opens r ≡ Some (KvSet (codes "n") (codes "k") (codes "v")) → Turn store (record { caller = call_of 1; event = Local None r } ∷ []) [] (call_of 2) (kv_get_call (codes "n") (codes "other")) used_nothing (record { caller = call_of 1; event = Local None r } ∷ []) [] (record { front = 1; answer = value_is None })
 
+-- a record of host 1 that was made here
+abbrev pub one_made : Entry
+one_made = record { caller = call_of 1; event = Local None (placed_record 1 (codes "history") 0 11) }
+
+-- what is to be appended for each call that names what is there, or sets it
+pub record WorkedDrafts : Type 0 where
+  pub sets_key : (store : KeyedStore) → Drafts store [] (kv_set_call (codes "n") (codes "k") (codes "v")) (record_draft None (KvSet (codes "n") (codes "k") (codes "v")))
+  pub sets_alias : (store : KeyedStore) → Drafts store [] (alias_set_call (codes "g") (codes "v")) (record_draft None (AliasSet (codes "g") (codes "v")))
+  -- the command that is shown, and none of another id
+  pub deletes : (store : KeyedStore) (r : SealedRecord) → store.opens r ≡ Some (HistoryCreate ls_ended) → Drafts store (record { caller = call_of 1; event = Local None r } ∷ []) (delete_call first_id) (record_draft None (HistoryDelete first_id))
+  pub no_command : (store : KeyedStore) (r : SealedRecord) → store.opens r ≡ Some (HistoryCreate ls_ended) → Step store (record { caller = call_of 1; event = Local None r } ∷ []) (call_of 2) (delete_call 7) (read_clock first_time) (record { caller = call_of 1; event = Local None r } ∷ []) (refused (unknown_id 7))
+  -- the name that stands for a value, and no other one
+  pub deletes_alias : (store : KeyedStore) (r : SealedRecord) → store.opens r ≡ Some (AliasSet (codes "g") (codes "v")) → Drafts store (record { caller = call_of 1; event = Local None r } ∷ []) (alias_delete_call (codes "g")) (record_draft None (AliasDelete (codes "g")))
+  pub no_name : (store : KeyedStore) (r : SealedRecord) → store.opens r ≡ Some (AliasSet (codes "g") (codes "v")) → Step store (record { caller = call_of 1; event = Local None r } ∷ []) (call_of 2) (alias_delete_call (codes "v")) (read_clock first_time) (record { caller = call_of 1; event = Local None r } ∷ []) (refused (unknown_name (codes "v")))
+  -- behind one record of the host's history the next has idx 1, and takes their place; a command that starts takes none
+  pub next_idx : (store : KeyedStore) (id : ℕ) → OfExample store → next_head store (one_made ∷ []) (HistoryDelete 7) id ≡ record { id = id; idx = 1; version = codes "v0"; tag = codes "history"; host = 1 }
+  pub next_told : (store : KeyedStore) (id : ℕ) → OfExample store → draft_answer store (one_made ∷ []) (record_draft None (HistoryDelete 7)) id ≡ stored 1
+  pub takes_place : (store : KeyedStore) → OfExample store → draft_place store (record_draft None (HistoryDelete 7)) ≡ Some (record { host = 1; tag = codes "history" })
+  pub takes_none : (store : KeyedStore) → draft_place store (start_draft (codes "ls") (codes "/") (codes "s1") (codes "h:u")) ≡ None
+
+-- a search for this text, in a scope
+abbrev pub search_of : (scope : Scope) (text : List ℕ) (offset limit : ℕ) → Call
+search_of scope text offset limit = search_call (record { scope = scope; unique = false; query = record { mode = by_prefix; text = text; offset = offset; limit = limit } })
+
+-- what a store may be asked, at each bound and past it
+pub record WorkedAsked : Type 0 where
+  -- ids of 128 bits
+  pub id_at_most : CallFits (delete_call (2 ^ 128 - 1))
+  pub id_above : CallFits (delete_call (2 ^ 128)) → ⊥
+  pub end_id_above : CallFits (end_call (2 ^ 128) (pos 0) (pos 0)) → ⊥
+  -- durations and statuses of 64 bits with a sign
+  pub end_at_most : CallFits (end_call (2 ^ 128 - 1) (pos (2 ^ 63 - 1)) (negsuc (2 ^ 63 - 1)))
+  pub duration_above : CallFits (end_call 0 (pos (2 ^ 63)) (pos 0)) → ⊥
+  pub status_below : CallFits (end_call 0 (pos 0) (negsuc (2 ^ 63))) → ⊥
+  -- 1 to 1,000 keys, aliases and hits
+  pub one_key : CallFits (kv_list_call (codes "n") [] 1)
+  pub keys_at_most : CallFits (kv_list_call (codes "n") [] 1000)
+  pub no_keys : CallFits (kv_list_call (codes "n") [] 0) → ⊥
+  pub keys_above : CallFits (kv_list_call (codes "n") [] 1001) → ⊥
+  pub aliases_above : CallFits (alias_list_call [] 1001) → ⊥
+  pub hits_above : CallFits (search_of of_all (codes "ls") 0 1001) → ⊥
+  -- offsets of 32 bits
+  pub offset_at_most : CallFits (search_of of_all (codes "ls") (2 ^ 32 - 1) 1000)
+  pub offset_above : CallFits (search_of of_all (codes "ls") (2 ^ 32) 1000) → ⊥
+  -- 1,048,569 bytes of texts, that of the scope among them
+  pub texts_at_most : (text : List ℕ) → length text ≡ 1048568 → CallFits (search_of (of_cwd (codes "/")) text 0 1)
+  pub texts_above : (text : List ℕ) → length text ≡ 1048569 → CallFits (search_of (of_cwd (codes "/")) text 0 1) → ⊥
+  -- the texts of each call and of each payload
+  pub of_start : call_bytes ls_call ≡ 8
+  pub of_end : call_bytes (end_call 7 (pos 1000) (pos 0)) ≡ 0
+  pub of_delete : call_bytes (delete_call 7) ≡ 0
+  pub of_search : call_bytes (search_of of_all (codes "ls") 3 5) ≡ 2
+  pub of_host_search : call_bytes (search_of (of_hostname (codes "h:u")) (codes "ls") 3 5) ≡ 5
+  pub of_session_search : call_bytes (search_of (of_session (codes "s1")) (codes "ls") 3 5) ≡ 4
+  pub of_kv_set : call_bytes (kv_set_call (codes "n") (codes "ke") (codes "val")) ≡ 6
+  pub of_kv_get : call_bytes (kv_get_call (codes "n") (codes "ke")) ≡ 3
+  pub of_kv_list : call_bytes (kv_list_call (codes "n") (codes "ke") 5) ≡ 3
+  pub of_alias_set : call_bytes (alias_set_call (codes "gg") (codes "val")) ≡ 5
+  pub of_alias_delete : call_bytes (alias_delete_call (codes "gg")) ≡ 2
+  pub of_alias_list : call_bytes (alias_list_call (codes "gg") 5) ≡ 2
+  pub of_status : call_bytes status_call ≡ 0
+  pub of_creation : payload_bytes (HistoryCreate ls_ended) ≡ 8
+  pub of_deletion : payload_bytes (HistoryDelete 7) ≡ 0
+  pub of_value : payload_bytes (KvSet (codes "n") (codes "ke") (codes "val")) ≡ 6
+  pub of_alias : payload_bytes (AliasSet (codes "gg") (codes "val")) ≡ 5
+  pub of_ending : payload_bytes (AliasDelete (codes "gg")) ≡ 2
+
 -- a commit that fails
 pub record WorkedDoubt : Type 0 where
   -- in doubt, or lost: the journal is the one before
@@ -125,3 +201,45 @@ pub record WorkedDoubt : Type 0 where
   pub not_drawn : (store : KeyedStore) → Turn store [] [] (call_of 1) ls_call (read_and_failed first_time) [] [] (record { front = 0; answer = refused random_fault })
   -- a lost end may come again
   pub again : (store : KeyedStore) (drawn : List ℕ) → OfExample store → length drawn ≡ 106 → Turn store (ls_entry ∷ []) [] (call_of 2) (end_call first_id (pos 1000) (pos 0)) (read_and_drew second_time drawn) (ls_entry ∷ end_entry store drawn ∷ []) [] (record { front = 2; answer = stored 0 })
+  -- memory may be wanting: a read leaves what is in doubt, and a write may have settled it
+  pub short_read : (store : KeyedStore) (drawn : List ℕ) → Turn store (ls_entry ∷ []) (end_entry store drawn ∷ []) (call_of 3) status_call used_nothing (ls_entry ∷ []) (end_entry store drawn ∷ []) (record { front = 1; answer = refused no_memory })
+  pub short : (store : KeyedStore) (drawn : List ℕ) → Turn store (ls_entry ∷ []) (end_entry store drawn ∷ []) (call_of 3) ls_call (read_clock second_time) (ls_entry ∷ []) (end_entry store drawn ∷ []) (record { front = 1; answer = refused no_memory })
+  pub short_settled : (store : KeyedStore) (drawn : List ℕ) → Turn store (ls_entry ∷ []) (end_entry store drawn ∷ []) (call_of 3) ls_call (read_and_drew first_time ten_bytes) (ls_entry ∷ end_settled store drawn ∷ []) [] (record { front = 2; answer = refused no_memory })
+  -- but it has read the clock then, and drawn all bytes or none
+  pub clock_unread : UsedSome used_nothing → ⊥
+  pub nine_drawn : UsedSome (read_and_drew first_time (take 9 ten_bytes)) → ⊥
+  -- no fault is told of a call that appends nothing, where nothing is in doubt
+  pub no_fault : (store : KeyedStore) (after doubt_after : List Entry) (front : ℕ) → Turn store [] [] (call_of 1) (end_call 7 (pos 0) (pos 0)) (read_clock first_time) after doubt_after (record { front = front; answer = refused disk_fault }) → ⊥
+
+-- ---- two records of owner 5 that come in one page, of which the first is in doubt
+
+abbrev pub two_records : List SealedRecord
+two_records = kv_record 0 1000 ∷ kv_record 1 1001 ∷ []
+
+abbrev pub first_in_doubt : Entry
+first_in_doubt = record { caller = call_of 2; event = Taken 5 (kv_record 0 1000) }
+
+-- once it is settled, and the second as it is taken then
+abbrev pub first_settled : Entry
+first_settled = record { caller = record { number = 0; call = 2; settled_for = 1 }; event = Taken 5 (kv_record 0 1000) }
+
+abbrev pub second_taken : Entry
+second_taken = record { caller = call_of 3; event = Taken 5 (kv_record 1 1001) }
+
+-- a page at a disk that may fail, one line for each way
+pub record WorkedPageTurns : Type 0 where
+  -- what is in doubt is settled first, so the second record alone is fresh
+  pub taken : PageTurn (ls_entry ∷ []) (first_in_doubt ∷ []) (call_of 3) 5 two_records (ls_entry ∷ first_settled ∷ second_taken ∷ []) [] (took 1)
+  pub taken_again : PageTurn (ls_entry ∷ first_settled ∷ second_taken ∷ []) [] (call_of 4) 5 two_records (ls_entry ∷ first_settled ∷ second_taken ∷ []) [] (took 0)
+  -- a page that is refused has settled it too: idx 1 is wanted behind it
+  pub gap : PageTurn (ls_entry ∷ []) (first_in_doubt ∷ []) (call_of 3) 5 (kv_record 2 1002 ∷ []) (ls_entry ∷ first_settled ∷ []) [] (page_refused (PageGap 0 1))
+  -- settling failed
+  pub stays_in_doubt : PageTurn (ls_entry ∷ []) (first_in_doubt ∷ []) (call_of 3) 5 two_records (ls_entry ∷ []) (first_in_doubt ∷ []) page_faulted
+  -- the page's own commit failed: it is in doubt, or lost
+  pub in_doubt : PageTurn (ls_entry ∷ []) (first_in_doubt ∷ []) (call_of 3) 5 two_records (ls_entry ∷ first_settled ∷ []) (second_taken ∷ []) page_faulted
+  pub lost : PageTurn (ls_entry ∷ []) (first_in_doubt ∷ []) (call_of 3) 5 two_records (ls_entry ∷ first_settled ∷ []) [] page_faulted
+  -- memory was wanting, before or after settling
+  pub short : PageTurn (ls_entry ∷ []) (first_in_doubt ∷ []) (call_of 3) 5 two_records (ls_entry ∷ []) (first_in_doubt ∷ []) page_unheld
+  pub short_settled : PageTurn (ls_entry ∷ []) (first_in_doubt ∷ []) (call_of 3) 5 two_records (ls_entry ∷ first_settled ∷ []) [] page_unheld
+  -- where nothing is in doubt and nothing is fresh, nothing is written that could fail
+  pub no_fault : (after doubt_after : List Entry) → PageTurn [] [] (call_of 1) 5 [] after doubt_after page_faulted → ⊥

@@ -9,7 +9,7 @@
 #![tactic(auto)]
 
 ghost use Rattle.step_rules.specs.Laws.{StepKeepsSound, StepNumbersChains, StepAddsOne, RefusalLeaves, ReadLeaves, StepHasOutcome, WriteHasOneOutcome, StepHasOneOutcome, TurnKeepsSound, TurnTellsFront, TurnOnlyAdds, PageTurnKeepsSound, PageTurnOnlyAdds};
-ghost use Rattle.step_rules.specs.Examples.{WorkedCommand, WorkedTexts, WorkedViews, WorkedDoubt};
+ghost use Rattle.step_rules.specs.Examples.{WorkedCommand, WorkedTexts, WorkedViews, WorkedDrafts, WorkedAsked, WorkedDoubt, WorkedPageTurns};
 
 /// A step from a sound journal leaves a sound journal.
 pub fn step_keeps_sound()
@@ -94,7 +94,24 @@ pub fn worked_views()
     ensures { WorkedViews }
 {}
 
-/// A commit that fails, worked out: in doubt and lost, then settled, and made again.
+/// What calls that set or delete are to append, worked out: what isn't there is not deleted.
+pub fn worked_drafts()
+    ensures { WorkedDrafts }
+{}
+
+/// What a store may be asked, at each bound and past it, and the bytes of the texts of each call.
+pub fn worked_asked()
+    ensures { WorkedAsked }
+{}
+
+/// A commit that fails, worked out: in doubt and lost, then settled, and made again. And memory that is
+/// wanting.
 pub fn worked_doubt()
     ensures { WorkedDoubt }
+{}
+
+/// A page at a disk that may fail, worked out: taken whole, refused, in doubt and lost, with what was in
+/// doubt settled first; and memory that is wanting.
+pub fn worked_page_turns()
+    ensures { WorkedPageTurns }
 {}

@@ -1,14 +1,14 @@
 -- Worked examples: replies in bytes, with the numbers written out, and two sessions in one journal.
-use Rattle.std.specs.Prelude.{◌≡◌, ℕ, ◌-◌, ◌^◌, List, [], ◌∷◌, ◌++◌, codes, None, replicate, true, false}
+use Rattle.std.specs.Prelude.{◌≡◌, ℕ, ◌-◌, ◌^◌, pos, negsuc, List, [], ◌∷◌, ◌++◌, codes, Some, None, replicate, true, false}
 use Rattle.definitions.specs.Ids.{made_id}
 use Rattle.definitions.specs.Step.{used_nothing, read_and_drew}
-use Rattle.record_rules.specs.Records.{Entry, Started}
-use Rattle.step_rules.specs.Answers.{too_long, unknown_id, unknown_name, full, random_fault, disk_fault, no_memory, bad_request, began, stored, value_is, keys, aliases, places, refused}
+use Rattle.record_rules.specs.Records.{Caller, Entry, Started}
+use Rattle.step_rules.specs.Answers.{too_long, unknown_id, unknown_name, full, random_fault, id_taken, disk_fault, no_memory, bad_request, began, stored, hits, value_is, keys, aliases, places, refused}
 use Rattle.step_rules.specs.Store.{KeyedStore}
 use Rattle.step_rules.specs.Examples.{first_time, second_time, ten_bytes, ls_call}
 use Rattle.session_rules.specs.Bytes.{reply_bytes}
 use Rattle.session_rules.specs.Sessions.{a_call, no_call, caller_of, Session}
-use Rattle.session_rules.specs.Passes.{TurnsOf}
+use Rattle.session_rules.specs.Passes.{TurnItem, Pass, mine, seen_more, KnowsItself, TurnsOf}
 
 pub record WorkedReplies : Type 0 where
   pub long_command : reply_bytes (record { front = 0; answer = refused (too_long 1 262145) }) ≡ 0x94 ∷ 0x01 ∷ 0x00 ∷ 0x01 ∷ 0xce ∷ 0x00 ∷ 0x04 ∷ 0x00 ∷ 0x01 ∷ []
@@ -16,10 +16,16 @@ pub record WorkedReplies : Type 0 where
   pub no_alias : reply_bytes (record { front = 0; answer = refused (unknown_name (codes "zz")) }) ≡ 0x93 ∷ 0x03 ∷ 0x00 ∷ 0xa2 ∷ 0x7a ∷ 0x7a ∷ []
   pub is_full : reply_bytes (record { front = 1; answer = refused (full (record { what = 3; held = 4096 })) }) ≡ 0x94 ∷ 0x04 ∷ 0x01 ∷ 0x03 ∷ 0xcd ∷ 0x10 ∷ 0x00 ∷ []
   pub no_bytes : reply_bytes (record { front = 1; answer = refused random_fault }) ≡ 0x92 ∷ 0x05 ∷ 0x01 ∷ []
+  pub id_held : reply_bytes (record { front = 1; answer = refused (id_taken 10) }) ≡ 0x93 ∷ 0x06 ∷ 0x01 ∷ 0xd9 ∷ 0x20 ∷ codes "0000000000000000000000000000000a"
   pub no_disk : reply_bytes (record { front = 1; answer = refused disk_fault }) ≡ 0x92 ∷ 0x07 ∷ 0x01 ∷ []
   pub no_memory_left : reply_bytes (record { front = 0; answer = refused no_memory }) ≡ 0x92 ∷ 0x08 ∷ 0x00 ∷ []
   pub byte_behind : reply_bytes (record { front = 0; answer = refused (bad_request 14) }) ≡ 0x93 ∷ 0x09 ∷ 0x00 ∷ 0x0e ∷ []
+  pub one_begun : reply_bytes (record { front = 1; answer = began 10 }) ≡ 0x93 ∷ 0x00 ∷ 0x01 ∷ 0xd9 ∷ 0x20 ∷ codes "0000000000000000000000000000000a"
   pub first_stored : reply_bytes (record { front = 2; answer = stored 0 }) ≡ 0x93 ∷ 0x00 ∷ 0x02 ∷ 0x00 ∷ []
+  -- a command that began at 1,000, took 7 ns and ended with the status -1
+  pub one_hit : reply_bytes (record { front = 2; answer = hits (record { id = 10; timestamp = 1000; duration = pos 7; exit = negsuc 0; command = codes "ls"; cwd = codes "/"; session = codes "s1"; hostname = codes "h:u"; deleted_at = None } ∷ []) })
+      ≡ 0x93 ∷ 0x00 ∷ 0x02 ∷ 0x91 ∷ 0x98 ∷ 0xd9 ∷ 0x20 ∷ (codes "0000000000000000000000000000000a" ++ (0xcd ∷ 0x03 ∷ 0xe8 ∷ 0x07 ∷ 0xff ∷ 0xa2 ∷ 0x6c ∷ 0x73 ∷ 0xa1 ∷ 0x2f ∷ 0xa2 ∷ 0x73 ∷ 0x31 ∷ 0xa3 ∷ 0x68 ∷ 0x3a ∷ 0x75 ∷ []))
+  pub a_value : reply_bytes (record { front = 1; answer = value_is (Some (codes "v")) }) ≡ 0x93 ∷ 0x00 ∷ 0x01 ∷ 0xa1 ∷ 0x76 ∷ []
   pub no_value : reply_bytes (record { front = 1; answer = value_is None }) ≡ 0x93 ∷ 0x00 ∷ 0x01 ∷ 0xc0 ∷ []
   pub two_keys : reply_bytes (record { front = 2; answer = keys (codes "a" ∷ codes "b" ∷ []) }) ≡ 0x93 ∷ 0x00 ∷ 0x02 ∷ 0x92 ∷ 0xa1 ∷ 0x61 ∷ 0xa1 ∷ 0x62 ∷ []
   pub one_alias : reply_bytes (record { front = 1; answer = aliases (record { name = codes "g"; value = codes "v" } ∷ []) }) ≡ 0x93 ∷ 0x00 ∷ 0x01 ∷ 0x91 ∷ 0x92 ∷ 0xa1 ∷ 0x67 ∷ 0xa1 ∷ 0x76 ∷ []
@@ -52,3 +58,43 @@ pub record WorkedSessions : Type 0 where
   -- a fault of the disk is told after a turn that failed, and not after another one
   pub failed_turn : TurnsOf [] (record { front = 1; answer = refused disk_fault } ∷ []) (record { found = 1; left = 1; failed = true } ∷ [])
   pub no_failed_turn : TurnsOf [] (record { front = 1; answer = refused disk_fault } ∷ []) (record { found = 1; left = 1; failed = false } ∷ []) → ⊥
+
+-- ---- a pass
+
+-- whose call it was: call 1 of pass 2, call 1 of pass 1, and a call of pass 1 whose commit was settled by no pass
+abbrev pub started_in : (caller : Caller) (id : ℕ) → Entry
+started_in caller id = record { caller = caller; event = Started (record { id = id; timestamp = first_time; command = codes "ls"; cwd = codes "/"; session = codes "s1"; hostname = codes "h:u" }) }
+
+abbrev pub by_second : Entry
+by_second = started_in (record { number = 2; call = 1; settled_for = 0 }) 7
+
+abbrev pub by_first : Entry
+by_first = started_in (record { number = 1; call = 1; settled_for = 0 }) 8
+
+abbrev pub once_settled : Entry
+once_settled = started_in (record { number = 0; call = 2; settled_for = 1 }) 9
+
+abbrev pub a_turn : TurnItem
+a_turn = record { found = 1; left = 2; failed = false }
+
+abbrev pub another_turn : TurnItem
+another_turn = record { found = 3; left = 3; failed = true }
+
+-- pass 1 of two, with so much seen
+abbrev pub pass_at : List Entry → Pass
+pass_at seen = record { number = 1; seen = seen; known = 2; turns = a_turn ∷ []; faults = 4; fixed = 0 ∷ 1 ∷ [] }
+
+pub record WorkedPass : Type 0 where
+  -- the caller of call 1 of pass 2
+  pub caller_is : caller_of 2 1 ≡ record { number = 2; call = 1; settled_for = 0 }
+  -- of what it has seen its own number is on one entry, and not on what was settled for it
+  pub own_alone : mine (pass_at (by_second ∷ by_first ∷ once_settled ∷ [])) ≡ by_first ∷ []
+  -- it sees one entry more behind the others, and is the same otherwise
+  pub sees_more : seen_more (pass_at (by_second ∷ [])) (by_first ∷ []) ≡ pass_at (by_second ∷ by_first ∷ [])
+  -- as many numbers were given as its own at least
+  pub knows : KnowsItself (record (pass_at []) { known = 1 })
+  pub knows_not : KnowsItself (record (pass_at []) { known = 0 }) → ⊥
+  -- one turn behind those before for each reply, and none without one
+  pub one_more_turn : TurnsOf (a_turn ∷ []) (record { front = 3; answer = stored 0 } ∷ []) (a_turn ∷ another_turn ∷ [])
+  pub no_turn : TurnsOf (a_turn ∷ []) (record { front = 3; answer = stored 0 } ∷ []) (a_turn ∷ []) → ⊥
+  pub no_reply : TurnsOf [] [] (a_turn ∷ []) → ⊥

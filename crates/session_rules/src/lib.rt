@@ -8,7 +8,7 @@
 #![tactic(auto)]
 
 ghost use Rattle.session_rules.specs.Laws.{EachIsAnswered, RepliesAtPoints, PointsFollow, CommitsAreOwn, SessionsDontOverlap, OthersLeaveIt, TurnMakesLonger, SessionBegins, TurnsFollow, PassGrowsByItsOwn};
-ghost use Rattle.session_rules.specs.Examples.{WorkedReplies, WorkedSessions};
+ghost use Rattle.session_rules.specs.Examples.{WorkedReplies, WorkedSessions, WorkedPass};
 
 /// Each request of a session gets one reply.
 pub fn each_is_answered()
@@ -71,4 +71,9 @@ pub fn worked_replies()
 /// and the turns of a pass.
 pub fn worked_sessions()
     ensures { WorkedSessions }
+{}
+
+/// A pass, worked out: which entries are its own, and its turns.
+pub fn worked_pass()
+    ensures { WorkedPass }
 {}

@@ -92,9 +92,21 @@ number : WrongAt call_kinds (0x95 ∷ 0x0c ∷ []) 1
 unfolding call_at last_arguments_at arguments_at argument_at array_at integer_at text_at text_head_at id_text is_utf8 chars lib.Utf8.encode
 number = wrong_there (0x95 ∷ 0x0c ∷ []) 1 refl (omega arith) refl
 
+negative : WrongAt call_kinds (0x91 ∷ 0xff ∷ []) 1
+unfolding call_at last_arguments_at arguments_at argument_at array_at integer_at text_at text_head_at id_text is_utf8 chars lib.Utf8.encode
+negative = wrong_there (0x91 ∷ 0xff ∷ []) 1 refl (omega arith) refl
+
 items : WrongAt call_kinds (0x92 ∷ 0x0b ∷ 0x00 ∷ []) 0
 unfolding call_at last_arguments_at arguments_at argument_at array_at integer_at text_at text_head_at id_text is_utf8 chars lib.Utf8.encode
 items = wrong_there (0x92 ∷ 0x0b ∷ 0x00 ∷ []) 0 refl (omega arith) refl
+
+id : WrongAt call_kinds (0x92 ∷ 0x03 ∷ 0xa1 ∷ 0x61 ∷ []) 2
+unfolding call_at last_arguments_at arguments_at argument_at array_at integer_at text_at text_head_at id_text is_utf8 chars lib.Utf8.encode
+id = wrong_there (0x92 ∷ 0x03 ∷ 0xa1 ∷ 0x61 ∷ []) 2 refl (omega arith) refl
+
+capital_id : WrongAt call_kinds (0x92 ∷ 0x03 ∷ 0xd9 ∷ 0x20 ∷ codes "0000000000000000000000000000000A") 2
+unfolding call_at last_arguments_at arguments_at argument_at array_at integer_at text_at text_head_at id_text is_utf8 chars lib.Utf8.encode
+capital_id = wrong_there (0x92 ∷ 0x03 ∷ 0xd9 ∷ 0x20 ∷ codes "0000000000000000000000000000000A") 2 refl (omega arith) refl
 
 mode : WrongAt call_kinds (0x98 ∷ 0x04 ∷ 0x02 ∷ 0x00 ∷ 0xa0 ∷ 0xa0 ∷ 0x00 ∷ 0x00 ∷ 0x01 ∷ []) 2
 unfolding call_at last_arguments_at arguments_at argument_at array_at integer_at text_at text_head_at id_text is_utf8 chars lib.Utf8.encode
@@ -128,4 +140,4 @@ pub calls : WorkedCalls
 calls = record { start = start; end = end; delete = delete; search = search; search_of_all = search_of_all; kv_set = kv_set; kv_get = kv_get; kv_list = kv_list; alias_set = alias_set; alias_delete = alias_delete; alias_list = alias_list; status = status }
 
 pub faults : WorkedFaults
-faults = record { nothing = nothing; no_items = no_items; nine_items = nine_items; number = number; items = items; mode = mode; filter = filter; unique = unique; limit = limit; great_limit = great_limit; cut = cut; behind = behind }
+faults = record { nothing = nothing; no_items = no_items; nine_items = nine_items; number = number; negative = negative; items = items; id = id; capital_id = capital_id; mode = mode; filter = filter; unique = unique; limit = limit; great_limit = great_limit; cut = cut; behind = behind }

@@ -42,8 +42,13 @@ pub record WorkedFaults : Type 0 where
   pub nine_items : WrongAt call_kinds (0x99 ∷ 0x0b ∷ []) 0
   -- a number that no call has is found before the array's length is
   pub number : WrongAt call_kinds (0x95 ∷ 0x0c ∷ []) 1
+  -- and -1 is the number of none
+  pub negative : WrongAt call_kinds (0x91 ∷ 0xff ∷ []) 1
   -- a Status with an argument: the array's length is wrong
   pub items : WrongAt call_kinds (0x92 ∷ 0x0b ∷ 0x00 ∷ []) 0
+  -- a Delete whose id is the text "a", and one whose id has a capital digit
+  pub id : WrongAt call_kinds (0x92 ∷ 0x03 ∷ 0xa1 ∷ 0x61 ∷ []) 2
+  pub capital_id : WrongAt call_kinds (0x92 ∷ 0x03 ∷ 0xd9 ∷ 0x20 ∷ codes "0000000000000000000000000000000A") 2
   -- a Search with the mode 2, the filter 4, and 2 for whether hits are unique
   pub mode : WrongAt call_kinds (0x98 ∷ 0x04 ∷ 0x02 ∷ 0x00 ∷ 0xa0 ∷ 0xa0 ∷ 0x00 ∷ 0x00 ∷ 0x01 ∷ []) 2
   pub filter : WrongAt call_kinds (0x98 ∷ 0x04 ∷ 0x00 ∷ 0x04 ∷ 0xa0 ∷ 0xa0 ∷ 0x00 ∷ 0x00 ∷ 0x01 ∷ []) 3

@@ -12,7 +12,7 @@ use Rattle.record_rules.specs.Examples.{kv_record, placed_record}
 use Rattle.view_rules.specs.Answers.{Scope, of_all, of_hostname, of_session, of_cwd}
 use Rattle.step_rules.specs.Calls.{Call, start_call, end_call, delete_call, search_call, kv_set_call, kv_get_call, kv_list_call, alias_set_call, alias_delete_call, alias_list_call, status_call, long_text, call_bytes, CallFits}
 use Rattle.step_rules.specs.Answers.{too_long, unknown_id, unknown_name, full, random_fault, id_taken, disk_fault, no_memory, began, stored, value_is, places, refused}
-use Rattle.step_rules.specs.Store.{Head, Seal, KeyedStore, payload_bytes, SealsWell}
+use Rattle.step_rules.specs.Store.{Head, Seal, KeyedStore, payload_text_bytes, SealsWell}
 use Rattle.step_rules.specs.Step.{start_draft, record_draft, Drafts, draft_place, next_head, draft_answer, Step}
 use Rattle.step_rules.specs.Turn.{UsedSome, Turn}
 use Rattle.step_rules.specs.PageTurns.{took, page_refused, page_faulted, page_unheld, PageTurn}
@@ -180,11 +180,11 @@ pub record WorkedAsked : Type 0 where
   pub of_alias_delete : call_bytes (alias_delete_call (codes "gg")) ≡ 2
   pub of_alias_list : call_bytes (alias_list_call (codes "gg") 5) ≡ 2
   pub of_status : call_bytes status_call ≡ 0
-  pub of_creation : payload_bytes (HistoryCreate ls_ended) ≡ 8
-  pub of_deletion : payload_bytes (HistoryDelete 7) ≡ 0
-  pub of_value : payload_bytes (KvSet (codes "n") (codes "ke") (codes "val")) ≡ 6
-  pub of_alias : payload_bytes (AliasSet (codes "gg") (codes "val")) ≡ 5
-  pub of_ending : payload_bytes (AliasDelete (codes "gg")) ≡ 2
+  pub of_creation : payload_text_bytes (HistoryCreate ls_ended) ≡ 8
+  pub of_deletion : payload_text_bytes (HistoryDelete 7) ≡ 0
+  pub of_value : payload_text_bytes (KvSet (codes "n") (codes "ke") (codes "val")) ≡ 6
+  pub of_alias : payload_text_bytes (AliasSet (codes "gg") (codes "val")) ≡ 5
+  pub of_ending : payload_text_bytes (AliasDelete (codes "gg")) ≡ 2
 
 -- a commit that fails
 pub record WorkedDoubt : Type 0 where

@@ -9,7 +9,7 @@
 //! falls. What a real file, clock or random source does is trusted: the forms over them tell no content, but hand on what
 //! std's reader and writer, and the generator, tell of themselves.
 //!
-//! It stands on std, and on `rand_core` for what a generator is: std's own source of random bytes promises nothing, so
+//! It stands on std, on `plain_types` for want of memory, and on `rand_core` for what a generator is: std's own source of random bytes promises nothing, so
 //! that a draw which was never made could not be told from one that was.
 #![tactic(auto)]
 

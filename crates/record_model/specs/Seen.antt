@@ -1,13 +1,10 @@
 -- Which word of the definitions each type stands for.
 use Rattle.std.specs.Prelude.{List, map, Result, Ok, Err}
-use Rattle.definitions.specs.Calls.{SearchMode, by_prefix, by_substring, SearchQuery, PlainCall, start_call, end_call, search_call}
+use Rattle.definitions.specs.Calls.{SearchMode, by_prefix, by_substring}
 use Rattle.definitions.specs.Journal.{StartedRecord, HistoryRecord}
 use Rattle.definitions.specs.Replies.{PlainAnswer, began_id, stored_index, hit_list, unknown_id, random_fault, id_taken, no_memory, PlainReply}
 use Rattle.record_model.specs.declared.asking.Mode.{Mode}
 use Rattle.record_model.specs.declared.asking.Mode.TheVariants.{Prefix, Substring}
-use Rattle.record_model.specs.declared.asking.Query.{Query}
-use Rattle.record_model.specs.declared.asking.Call.{Call}
-use Rattle.record_model.specs.declared.asking.Call.TheVariants.{Start, End, Search}
 use Rattle.record_model.specs.declared.replying.Answer.{Answer}
 use Rattle.record_model.specs.declared.replying.Answer.TheVariants.{Begun, Stored, Hits}
 use Rattle.record_model.specs.declared.replying.Refusal.{Refusal}
@@ -29,15 +26,6 @@ histories_seen hs = map history_seen hs
 abbrev pub mode_seen : Mode → SearchMode
 mode_seen Prefix = by_prefix
 mode_seen Substring = by_substring
-
--- a query that goes through all commands and shows each hit
-abbrev pub query_seen : Query → SearchQuery
-query_seen q = record { mode = mode_seen q.mode; text = q.text; offset = q.offset; limit = q.limit }
-
-abbrev pub call_seen : Call → PlainCall
-call_seen (Start command cwd session hostname) = start_call command cwd session hostname
-call_seen (End id duration exit) = end_call id duration exit
-call_seen (Search query) = search_call (query_seen query)
 
 abbrev pub answer_seen : Answer → PlainAnswer
 answer_seen (Begun id) = began_id id

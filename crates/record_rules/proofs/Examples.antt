@@ -1,5 +1,5 @@
 -- The examples, computed.
-use Rattle.std.proofs.Common.{◌≡◌, ℕ, zero, suc, ◌+◌, ◌≤◌, false, ◌||◌, cond, List, [], ◌∷◌, ◌++◌, length, map, Option, Some, None, Ok, refl, sym, ap, arith}
+use Rattle.std.proofs.Common.{◌≡◌, ℕ, zero, suc, ◌+◌, ◌<◌, ◌≤◌, false, ◌||◌, cond, List, [], ◌∷◌, ◌++◌, length, map, Option, Some, None, Ok, refl, sym, ap, arith}
 use Rattle.std.specs.Prelude.{sum_by, codes, nat_lt, nat_le, replicate}
 use Rattle.std.proofs.lemmas.Option.{none-some}
 use Rattle.std.specs.Option.{option_or}
@@ -7,7 +7,7 @@ use Rattle.std.proofs.lemmas.Bool.{true≢false}
 use Rattle.record_rules.specs.Limits.{most_entries, most_held_weight, most_places}
 use Rattle.record_rules.specs.Records.{SealedRecord, Entry, Started, Local, Taken, record_weight, page_weight, event_weight}
 use Rattle.record_rules.specs.Journal.{PassedLimit, own_events, records_of, places_of, places_added, chain, fits, RecordFits, Sound}
-use Rattle.record_rules.specs.Examples.{WorkedHundred, WorkedFull, WorkedLimits, caller, kv_page, kv_record, placed_record, started_ls, entry_of, local_entry, WorkedTotals, WorkedStatus, WorkedRunning, WorkedPages, WorkedUnsound, WorkedSound, WorkedOwners}
+use Rattle.record_rules.specs.Examples.{WorkedHundred, WorkedFull, WorkedLimits, caller, kv_page, kv_record, placed_record, started_ls, entry_of, local_entry, WorkedTotals, WorkedStatus, WorkedRunning, WorkedPages, WorkedFronts, WorkedUnsound, WorkedSound, WorkedOwners}
 use Rattle.record_rules.specs.Growth.{PageTooLong, has_long_text, GoOn, taken_entry, grow}
 use Rattle.record_rules.proofs.FullOwner.{gap_is_told, full_is_told}
 use Rattle.record_rules.proofs.NextPage.{next_page_is_taken}
@@ -48,17 +48,48 @@ limits = record {
 }
 
 pub statuses : WorkedStatus
-statuses = record { in_order = refl; of_none = refl; two_from_one = refl; past_the_end = refl }
+statuses = record {
+  in_order = refl;
+  of_none = refl;
+  two_from_one = refl;
+  past_the_end = refl;
+  rises = ((refl, (refl, tt)), ((refl, tt), (tt, tt)));
+  twice = λ rises. let h = rises.0.0 in cc;
+  falls = λ rises. let h = rises.0.0 in cc;
+}
 
 pub runs : WorkedRunning
 runs = record { begun = refl; ended = refl; ended_before = refl }
 
 pub pages : WorkedPages
-pages = record { first_time = refl; second_time = refl; overlapping = refl; gap = refl; gap_within = refl; fork = refl; fork_within = refl; twice_within = refl; long_tag = refl; long_version = refl; long_host_name = refl; full_tag = refl; least_position = refl; other_owner = refl }
+pages = record { first_time = refl; second_time = refl; overlapping = refl; gap = refl; gap_within = refl; fork = refl; fork_within = refl; twice_within = refl; long_tag = refl; long_version = refl; long_host_name = refl; full_tag = refl; least_position = refl; other_owner = refl; first_held = refl; none_held = refl; place_taken = refl; place_free = refl; held_with = refl }
 
 kv_goes_on : (count idx : ℕ) → GoOn 2 (codes "kv") idx (kv_page count idx)
 kv_goes_on zero idx = tt
 kv_goes_on (suc count) idx = (refl, refl, refl, kv_goes_on count (idx + 1))
+
+pub fronts : WorkedFronts
+fronts = record {
+  goes_on = kv_goes_on 3 3;
+  from_another = λ go. let h : ◌≡◌ {A = ℕ} 3 2 = go.2 in omega arith;
+  other_host = λ go. let h : ◌≡◌ {A = ℕ} 2 1 = go.0 in omega arith;
+  other_tag = λ go. let h : ◌≡◌ {A = ℕ} 2 7 = ap (λ (tag : List ℕ). length tag) go.1 in omega arith;
+  leaves_one = λ go. let h : ◌≡◌ {A = ℕ} 5 4 = go.3.2 in omega arith;
+  front = refl;
+  whole = refl;
+  longer = λ is. let h : ◌≡◌ {A = ℕ} 3 2 = ap (λ (l : List SealedRecord). length l) is in omega arith;
+  later = λ is. let h : ◌≡◌ {A = ℕ} 1 0 = ap idx_of_first is in omega arith;
+  two = record { is_front = refl; within = omega arith; longest = λ shorter. omega arith };
+  one = record { is_front = refl; within = omega arith; longest = λ shorter. omega arith };
+  all = record { is_front = refl; within = omega arith; longest = λ shorter. omega arith };
+  not_longest = λ is. let h : 264 < 264 = is.longest (omega arith) in omega arith;
+  too_heavy = λ is. let h : 264 ≤ 263 = is.within in omega arith;
+  no_front = λ is. let h : ◌≡◌ {A = ℕ} 1 0 = ap idx_of_first is.is_front in omega arith;
+}
+  where
+    idx_of_first : List SealedRecord → ℕ
+    idx_of_first [] = 9
+    idx_of_first (r ∷ records) = r.idx
 
 taken_whole : grow [] caller 5 (kv_page 100 0) ≡ Ok (map (taken_entry caller 5) (kv_page 100 0))
 taken_whole = next_page_is_taken [] caller 5 2 (codes "kv") (kv_page 100 0) (λ k r held. absurd (none-some r held)) (kv_goes_on 100 0) refl (record { entries = omega arith; weight = omega arith; places = omega arith })
@@ -84,6 +115,7 @@ unsound = record {
   idx_twice = λ sound. let h : ◌≡◌ {A = ℕ} 0 1 = sound.numbered 5 2 (codes "kv") 1 (kv_record 0 1001) refl in omega arith;
   other_host = λ sound. let h : ◌≡◌ {A = ℕ} 1 2 = sound.made_here 0 (Local None (placed_record 1 (codes "history") 0 11)) (omega arith) in omega arith;
   never_begun = λ sound. true≢false (sym (sound.closes_running 0 7 (placed_record 1 (codes "history") 0 11) refl));
+  other_begun = λ sound. true≢false (sym (sound.closes_running 1 8 (placed_record 1 (codes "history") 0 11) refl));
   ended_twice = λ sound. true≢false (sym (sound.closes_running 2 7 (placed_record 1 (codes "history") 1 12) refl));
   ended_before = λ sound. true≢false (sym (sound.closes_running 0 7 (placed_record 1 (codes "history") 0 11) refl));
   begun_at_once = λ sound. sound.started_apart 0 1 (started_ls 7) (started_ls 7) (omega arith) refl refl refl;

@@ -1,10 +1,10 @@
 -- Worked examples: what the definitions give at small journals, with the numbers written out.
-use Rattle.std.specs.Prelude.{true, ◌≡◌, ◌≢◌, ◌++◌, ℕ, zero, suc, ◌+◌, List, [], ◌∷◌, length, map, replicate, sum_by, codes, Option, Some, None, Ok, Err}
+use Rattle.std.specs.Prelude.{true, false, ◌≡◌, ◌≢◌, ◌++◌, ℕ, zero, suc, ◌+◌, List, [], ◌∷◌, length, map, replicate, sum_by, codes, Option, Some, None, Ok, Err}
 use Rattle.definitions.specs.Journal.{StartedRecord}
 use Rattle.record_rules.specs.Records.{SealedRecord, Caller, Entry, Event, Started, Local, Taken, record_weight, page_weight, event_weight}
-use Rattle.record_rules.specs.Journal.{chain, ChainPlace, own_events, records_of, places_of, places_added, status, held, fits, running, StartedFits, RecordFits, EventFits, Sound}
-use Rattle.record_rules.specs.Growth.{is_fresh, too_long_at, PageTooLong, PageForked, PageGap, PageFull, taken_entry, grow}
-use Rattle.record_rules.specs.Answers.{page, AskStatus, AskPage, SendPage, StatusIs, PageIs, PageAdded, PageRefused, replies}
+use Rattle.record_rules.specs.Journal.{chain, ChainPlace, Ascends, own_events, records_of, places_of, places_added, status, held, fits, running, StartedFits, RecordFits, EventFits, Sound}
+use Rattle.record_rules.specs.Growth.{holder, is_fresh, too_long_at, owned_with, PageTooLong, PageForked, PageGap, PageFull, taken_entry, GoOn, IsFront, grow}
+use Rattle.record_rules.specs.Answers.{page, IsLongestFront, AskStatus, AskPage, SendPage, StatusIs, PageIs, PageAdded, PageRefused, replies}
 
 -- ---- the records and entries of the examples
 
@@ -77,6 +77,10 @@ pub record WorkedStatus : Type 0 where
   -- from idx 1, at most 2 records
   pub two_from_one : page (map (taken_entry caller 5) (kv_page 4 0)) 5 2 (codes "kv") 1 2 ≡ kv_page 2 1
   pub past_the_end : page (map (taken_entry caller 5) (kv_page 4 0)) 5 2 (codes "kv") 4 2 ≡ []
+  -- places that rise by host, then tag; one twice and two that fall don't
+  pub rises : Ascends (record { host = 2; tag = codes "history" } ∷ record { host = 2; tag = codes "kv" } ∷ record { host = 3; tag = codes "history" } ∷ [])
+  pub twice : Ascends (record { host = 2; tag = codes "kv" } ∷ record { host = 2; tag = codes "kv" } ∷ []) → ⊥
+  pub falls : Ascends (record { host = 2; tag = codes "kv" } ∷ record { host = 2; tag = codes "history" } ∷ []) → ⊥
 
 -- ---- what runs
 
@@ -112,6 +116,36 @@ pub record WorkedPages : Type 0 where
   pub least_position : grow [] caller 5 (kv_record 1 1001 ∷ placed_record 2 (replicate 257 0) 0 1 ∷ []) ≡ Err (PageGap 0 0)
   -- the records of another owner at the same host, tag and idx are no fork
   pub other_owner : grow (map (taken_entry caller 5) (kv_page 2 0)) caller 6 (kv_record 0 4 ∷ []) ≡ Ok (taken_entry caller 6 (kv_record 0 4) ∷ [])
+  -- of two records at one place the first counts, and one of the next idx is at another
+  pub first_held : holder (kv_record 0 1000 ∷ kv_record 0 1001 ∷ []) (kv_record 0 4) ≡ Some (kv_record 0 1000)
+  pub none_held : holder (kv_record 0 1000 ∷ []) (kv_record 1 1000) ≡ None
+  -- where a record is held at its place it isn't fresh, whatever its id, and behind that one it is
+  pub place_taken : is_fresh (kv_record 0 1000 ∷ []) (kv_record 0 4) ≡ false
+  pub place_free : is_fresh (kv_record 0 1000 ∷ []) (kv_record 1 1000) ≡ true
+  -- of a page that goes on, only what is new weighs on its owner
+  pub held_with : owned_with 5 (Taken 5 (kv_record 0 1000) ∷ []) (kv_page 2 0) ≡ Taken 5 (kv_record 0 1000) ∷ Taken 5 (kv_record 1 1001) ∷ []
+
+-- ---- fronts
+
+-- three records that go on in one chain, and fronts of them
+pub record WorkedFronts : Type 0 where
+  pub goes_on : GoOn 2 (codes "kv") 3 (kv_page 3 3)
+  pub from_another : GoOn 2 (codes "kv") 2 (kv_page 3 3) → ⊥
+  pub other_host : GoOn 1 (codes "kv") 3 (kv_page 3 3) → ⊥
+  pub other_tag : GoOn 2 (codes "history") 3 (kv_page 3 3) → ⊥
+  pub leaves_one : GoOn 2 (codes "kv") 3 (kv_record 3 1003 ∷ kv_record 5 1005 ∷ []) → ⊥
+  -- two of three are a front, three of two aren't, and neither is what begins later
+  pub front : IsFront (kv_page 2 0) (kv_page 3 0)
+  pub whole : IsFront (kv_page 3 0) (kv_page 3 0)
+  pub longer : IsFront (kv_page 3 0) (kv_page 2 0) → ⊥
+  pub later : IsFront (kv_page 1 1) (kv_page 3 0) → ⊥
+  -- each weighs 132: within 264 are two, and within a byte less one; all where there is room for more
+  pub two : IsLongestFront 264 (kv_page 3 0) (kv_page 2 0)
+  pub one : IsLongestFront 263 (kv_page 3 0) (kv_page 1 0)
+  pub all : IsLongestFront 1000 (kv_page 3 0) (kv_page 3 0)
+  pub not_longest : IsLongestFront 264 (kv_page 3 0) (kv_page 1 0) → ⊥
+  pub too_heavy : IsLongestFront 263 (kv_page 3 0) (kv_page 2 0) → ⊥
+  pub no_front : IsLongestFront 264 (kv_page 3 0) (kv_page 2 1) → ⊥
 
 -- a page of idx 0 to 99 for owner 5, and what comes behind it
 pub record WorkedHundred : Type 0 where
@@ -137,8 +171,9 @@ pub record WorkedUnsound : Type 0 where
   pub idx_twice : Sound (map (taken_entry caller 5) (kv_record 0 1000 ∷ kv_record 0 1001 ∷ [])) 1 → ⊥
   -- a record made here with another host
   pub other_host : Sound (local_entry None 0 11 ∷ []) 2 → ⊥
-  -- an end without a start, a second end, and an end before its start
+  -- an end without a start, one while another command runs, a second end, and an end before its start
   pub never_begun : Sound (local_entry (Some 7) 0 11 ∷ []) 1 → ⊥
+  pub other_begun : Sound (entry_of (Started (started_ls 7)) ∷ local_entry (Some 8) 0 11 ∷ []) 1 → ⊥
   pub ended_twice : Sound (entry_of (Started (started_ls 7)) ∷ local_entry (Some 7) 0 11 ∷ local_entry (Some 7) 1 12 ∷ []) 1 → ⊥
   pub ended_before : Sound (local_entry (Some 7) 0 11 ∷ entry_of (Started (started_ls 7)) ∷ []) 1 → ⊥
   -- two starts with one id, at once or after an end

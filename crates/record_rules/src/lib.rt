@@ -11,7 +11,7 @@
 #![tactic(auto)]
 
 ghost use Rattle.record_rules.specs.Laws.{EmptyIsSound, EntryKeepsSound, SoundEntryFollows, FrontIsSound, StatusTellsLengths, StatusListsNoEmpty, StatusAscends, LengthsMakeStatus, PageIsLongest, GrowthKeepsSound, RefusalLeavesAll, TakenPageFits, NextPageIsTaken, RecordsPastHundred, GrowthExtendsChains, GrowthLeavesOthers, GrowthHoldsPage, RepeatAddsNothing, StandingAddsNothing, RepliesAlike, RepliesAlone, RepliesAsAlone, SliceNeverForks, SliceKeepsFront, SliceLeavesOtherChains};
-ghost use Rattle.record_rules.specs.Examples.{WorkedTotals, WorkedLimits, WorkedStatus, WorkedRunning, WorkedPages, WorkedHundred, WorkedFull, WorkedSound, WorkedUnsound, WorkedOwners};
+ghost use Rattle.record_rules.specs.Examples.{WorkedTotals, WorkedLimits, WorkedStatus, WorkedRunning, WorkedPages, WorkedFronts, WorkedHundred, WorkedFull, WorkedSound, WorkedUnsound, WorkedOwners};
 
 /// A journal without entries is sound.
 pub fn empty_is_sound()
@@ -170,6 +170,12 @@ pub fn worked_running()
 /// Pages, worked out: taken, taken again, and refused for each cause.
 pub fn worked_pages()
     ensures { WorkedPages }
+{}
+
+/// Fronts of three records, worked out: what goes on in a chain, what is a front, and the longest one
+/// within a weight.
+pub fn worked_fronts()
+    ensures { WorkedFronts }
 {}
 
 /// A page of 100 records, worked out: taken, taken again, and what comes behind it.

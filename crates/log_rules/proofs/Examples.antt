@@ -1,6 +1,6 @@
 -- The examples, computed.
 use Rattle.std.proofs.Common.{◌≡◌, ◌≢◌, ℕ, zero, suc, ◌+◌, ◌<◌, ◌≤◌, ◌^◌, inl, List, [], ◌∷◌, ◌++◌, length, get_or, drop, refl, sym, ◌∙◌, ap, arith, length-append}
-use Rattle.std.specs.Prelude.{take, replicate, slice_get, codes}
+use Rattle.std.specs.Prelude.{false, ◌||◌, take, replicate, slice_get, codes}
 use Rattle.std.specs.List.{flat_map, AllByRecursion}
 use Rattle.std.specs.Str.{IsAscii}
 use Rattle.std.proofs.lemmas.Str.{IsUtf8-from_ascii}
@@ -13,10 +13,10 @@ use Rattle.record_rules.specs.Journal.{events_of, Sound}
 use Rattle.record_rules.proofs.Soundness.{empty_sound, Sound-push}
 use Rattle.log_rules.specs.Body.{HasEventBytes, IsBatch, event_bytes, body_bytes}
 use Rattle.log_rules.specs.Log.{batch_bytes, header_bytes, IsLogFront, StandsFor, DamagedAt, HoldsGoodBatch, payload_bytes}
-use Rattle.log_rules.specs.Examples.{worked_id, started_ls, ls_entry, started_empty, ls_log, WorkedBodies, WorkedNewLog, WorkedFirstBatch}
+use Rattle.log_rules.specs.Examples.{worked_id, started_ls, ls_entry, ended_ls, ended_entry, started_empty, ls_log, WorkedBodies, WorkedFields, WorkedNewLog, WorkedFirstBatch}
 use Rattle.log_rules.proofs.Fields.{number_4, body_apart}
 
-empty_front : (host : ℕ) → host < 2 ^ 128 → IsLogFront (header_bytes host) host []
+pub empty_front : (host : ℕ) → host < 2 ^ 128 → IsLogFront (header_bytes host) host []
 empty_front host fits = record { host_fits = fits; batches = []; opened = tt; events_are = refl; bytes_are = refl }
 
 ascii_cons : (byte : ℕ) (bytes : List ℕ) → byte < 128 → IsAscii bytes → IsAscii (byte ∷ bytes)
@@ -35,7 +35,7 @@ session_text = record { utf8 = IsUtf8-from_ascii (codes "s1") (ascii_cons 0x73 (
 hostname_text : TextFits (codes "h:u")
 hostname_text = record { utf8 = IsUtf8-from_ascii (codes "h:u") (ascii_cons 0x68 (0x3a ∷ 0x75 ∷ []) (omega arith) (ascii_cons 0x3a (0x75 ∷ []) (omega arith) (ascii_cons 0x75 [] (omega arith) IsAscii-nil))); short = omega arith }
 
-ls_batch : IsBatch (Started started_ls ∷ [])
+pub ls_batch : IsBatch (Started started_ls ∷ [])
 ls_batch = record {
   some = omega arith;
   few = omega arith;
@@ -43,7 +43,7 @@ ls_batch = record {
   body = omega arith;
 }
 
-ls_sound : Sound (ls_entry ∷ []) 1
+pub ls_sound : Sound (ls_entry ∷ []) 1
 ls_sound = Sound-push [] ls_entry 1 (empty_sound 1) (record {
   numbered = tt;
   made_here = tt;
@@ -56,8 +56,44 @@ ls_sound = Sound-push [] ls_entry 1 (empty_sound 1) (record {
 ls_front : (gate : ℕ) → gate ≢ 0 → IsLogFront (header_bytes 1 ++ batch_bytes (record { gate = gate; events = Started started_ls ∷ [] })) 1 (Started started_ls ∷ [])
 ls_front gate opened = record { host_fits = omega arith; batches = record { gate = gate; events = Started started_ls ∷ [] } ∷ []; opened = (record { gate = opened; batch_events = ls_batch }, tt); events_are = refl; bytes_are = refl }
 
-ls_stands : (gate : ℕ) → gate ≢ 0 → StandsFor (ls_log gate) 1 (ls_entry ∷ [])
+pub ls_stands : (gate : ℕ) → gate ≢ 0 → StandsFor (ls_log gate) 1 (ls_entry ∷ [])
 ls_stands gate opened = record { front = header_bytes 1 ++ batch_bytes (record { gate = gate; events = Started started_ls ∷ [] }); behind = []; opened = ls_front gate opened; bytes_are = refl; sound = ls_sound }
+
+ended_batch : IsBatch (ended_ls ∷ [])
+ended_batch = record {
+  some = omega arith;
+  few = omega arith;
+  each = (record { closed_id = omega arith; sealed_record = record { id = omega arith; idx = omega arith; host = omega arith; host_name = no_bytes; timestamp = omega arith; version = version_text; tag = tag_text; sealed = no_bytes; wrapped = no_bytes } }, tt);
+  body = omega arith;
+}
+  where
+    no_bytes : IsText []
+    no_bytes = record { utf8 = IsUtf8-from_ascii [] IsAscii-nil; fits = omega arith }
+
+    version_text : IsText (codes "v0")
+    version_text = record { utf8 = IsUtf8-from_ascii (codes "v0") (ascii_cons 0x76 (0x30 ∷ []) (omega arith) (ascii_cons 0x30 [] (omega arith) IsAscii-nil)); fits = omega arith }
+
+    tag_text : IsText (codes "history")
+    tag_text = record { utf8 = IsUtf8-from_ascii (codes "history") (ascii_cons 0x68 (codes "istory") (omega arith) (ascii_cons 0x69 (codes "story") (omega arith) (ascii_cons 0x73 (codes "tory") (omega arith) (ascii_cons 0x74 (codes "ory") (omega arith) (ascii_cons 0x6f (codes "ry") (omega arith) (ascii_cons 0x72 (codes "y") (omega arith) (ascii_cons 0x79 [] (omega arith) IsAscii-nil))))))); fits = omega arith }
+
+ended_sound : Sound (ls_entry ∷ ended_entry ∷ []) 1
+ended_sound = Sound-push (ls_entry ∷ []) ended_entry 1 ls_sound (record {
+  numbered = refl;
+  made_here = refl;
+  closes_running = λ closed closes. ap (λ b. b || false) closes;
+  started_apart = λ k s t at is. cc;
+  event_fits = record { host_name = omega arith; version = omega arith; tag = omega arith; weight = omega arith };
+  held_fits = refl;
+})
+
+ended_front : IsLogFront (header_bytes 1 ++ batch_bytes (record { gate = 1; events = Started started_ls ∷ [] }) ++ batch_bytes (record { gate = 7; events = ended_ls ∷ [] })) 1 (Started started_ls ∷ ended_ls ∷ [])
+ended_front = record {
+  host_fits = omega arith;
+  batches = record { gate = 1; events = Started started_ls ∷ [] } ∷ record { gate = 7; events = ended_ls ∷ [] } ∷ [];
+  opened = (record { gate = λ e. absurd (omega arith); batch_events = ls_batch }, (record { gate = λ e. absurd (omega arith); batch_events = ended_batch }, tt));
+  events_are = refl;
+  bytes_are = refl;
+}
 
 -- a body of 54 bytes and a gate don't fit into 54 bytes
 too_long : HoldsGoodBatch (0 ∷ 0 ∷ 0 ∷ 0x36 ∷ drop 37 (ls_log 1)) 1 [] → ⊥
@@ -123,6 +159,26 @@ bodies = record {
   more = λ batch. let h : 101 ≤ 100 = batch.few in omega arith;
 }
 
+pub fields : WorkedFields
+fields = record {
+  text_at_most = λ text utf8 e. record { utf8 = utf8; fits = omega arith };
+  text_above = λ text e is. let low = is.fits in omega arith;
+  no_text = λ text other is. other is.utf8;
+  started_at_most = λ text is. record { id = omega arith; timestamp = omega arith; command = is; cwd = is; session = is; hostname = is };
+  started_id_above = λ s e has. let low = has.id in omega arith;
+  started_timestamp_above = λ s e has. let low = has.timestamp in omega arith;
+  hostname_above = λ s other has. other has.hostname;
+  made_here_at_most = λ text is. record { closed_id = omega arith; sealed_record = record { id = omega arith; idx = omega arith; host = omega arith; host_name = is; timestamp = omega arith; version = is; tag = is; sealed = is; wrapped = is } };
+  closed_above = λ r has. let low : 0x100000000000000000000000000000000 < 2 ^ 128 = has.closed_id in omega arith;
+  taken_in_at_most = λ text is. record { owner_number = omega arith; sealed_record = record { id = omega arith; idx = omega arith; host = omega arith; host_name = is; timestamp = omega arith; version = is; tag = is; sealed = is; wrapped = is } };
+  owner_above = λ r has. let low : 0x100000000 < 2 ^ 32 = has.owner_number in omega arith;
+  id_above = λ closes r e has. let low = has.sealed_record.id in omega arith;
+  idx_above = λ closes r e has. let low = has.sealed_record.idx in omega arith;
+  host_above = λ owner r e has. let low = has.sealed_record.host in omega arith;
+  timestamp_above = λ owner r e has. let low = has.sealed_record.timestamp in omega arith;
+  wrapped_above = λ owner r other has. other has.sealed_record.wrapped;
+}
+
 pub new_store : WorkedNewLog
 new_store = record {
   bytes = refl;
@@ -165,6 +221,7 @@ first_batch = record {
   other_gate = refl;
   stands_too = ls_stands 7 (λ e. absurd (omega arith));
   stands_closed = record { front = header_bytes 1; behind = payload_bytes (Started started_ls ∷ []) ++ 0 ∷ []; opened = empty_front 1 (omega arith); bytes_are = refl; sound = empty_sound 1 };
+  stands_ended = record { front = header_bytes 1 ++ batch_bytes (record { gate = 1; events = Started started_ls ∷ [] }) ++ batch_bytes (record { gate = 7; events = ended_ls ∷ [] }); behind = []; opened = ended_front; bytes_are = refl; sound = ended_sound };
   damaged = damaged_at_first (0 ∷ 0 ∷ 0 ∷ 0x36 ∷ drop 37 (ls_log 1)) too_long;
   cut = damaged_at_first (take 57 (drop 33 (ls_log 1))) no_next_gate;
   unknown_kind = damaged_at_first (take 8 (drop 33 (ls_log 1)) ++ 9 ∷ drop 42 (ls_log 1)) no_such_event;

@@ -11,7 +11,7 @@
 #![tactic(auto)]
 
 ghost use Rattle.log_rules.specs.Laws.{OneEventBegins, OneBodyBegins, OneJournalStands, OpenGateAdds, ClosedGateHides, StandingIsALog, StandingIsWhole, DamagedIsALog, DamagedAtOne, SoundByEvents, FaultyHeader, StandingHeader};
-ghost use Rattle.log_rules.specs.Examples.{WorkedBodies, WorkedNewLog, WorkedFirstBatch};
+ghost use Rattle.log_rules.specs.Examples.{WorkedBodies, WorkedFields, WorkedNewLog, WorkedFirstBatch};
 
 /// Bytes begin with the spelling of at most one event.
 pub fn one_event_begins()
@@ -78,6 +78,11 @@ pub fn standing_header()
 /// The bytes of a record that was made here and of one that was taken in, and how many events a batch has.
 pub fn worked_bodies()
     ensures { WorkedBodies }
+{}
+
+/// Which events have bytes: numbers and texts at their limits, and one above.
+pub fn worked_fields()
+    ensures { WorkedFields }
 {}
 
 /// The 33 bytes of a new log, and the places at which a header can't be read.

@@ -12,7 +12,7 @@
 #![tactic(auto)]
 
 ghost use Rattle.disk_rules.specs.Laws.{ShowsIsLeft, CallsKeepDisk, SyncLeavesShown, FailedSyncLeavesAll, WritesStayInRange, WritesMayBeLost, SinceGrows, SinceEarlier, SinceNow, AppendIsAllOrNothing, AppendIsKept, StagedIsInDoubt, DoubtStays, SettleIsAllOrNothing, SettleIsKept};
-ghost use Rattle.disk_rules.specs.Examples.{WorkedDisk};
+ghost use Rattle.disk_rules.specs.Examples.{WorkedDisk, WorkedCalls, WorkedAppend};
 
 /// What a disk shows is one of the bytes that a crash now may leave.
 pub fn shows_is_left()
@@ -97,4 +97,15 @@ pub fn settle_is_kept()
 /// since which moment; and the disk after an append.
 pub fn worked_disk()
     ensures { WorkedDisk }
+{}
+
+/// What is a disk and what may be asked of it, worked out: no byte at rest that wasn't synced, and no
+/// write past the end.
+pub fn worked_calls()
+    ensures { WorkedCalls }
+{}
+
+/// An append of one byte behind a log of one byte, worked out: its moments, and what it leaves.
+pub fn worked_append()
+    ensures { WorkedAppend }
 {}

@@ -1,13 +1,14 @@
 -- The examples, computed.
-use Rattle.std.proofs.Common.{◌≡◌, ℕ, ◌<◌, ◌^◌, pos, List, [], ◌∷◌, ◌++◌, length, true, refl, sym, ap, subst, append-nil, arith}
-use Rattle.std.specs.Prelude.{codes}
+use Rattle.std.proofs.Common.{◌≡◌, ℕ, ◌<◌, ◌^◌, ℤ, pos, negsuc, Option, List, [], ◌∷◌, ◌++◌, length, true, refl, sym, ap, subst, append-nil, arith}
+use Rattle.std.specs.Prelude.{codes, FitsSigned}
+use Rattle.std.specs.Int.{w64}
 use Rattle.std.proofs.lemmas.Str.{IsUtf8-from_is_utf8}
 use Rattle.std.specs.Str.{is_utf8, chars}
 use Rattle.definitions.specs.Ids.{id_text}
 use Rattle.definitions.specs.Spelling.{int_64, TextFits}
-use Rattle.payload_rules.specs.Items.{bin_8, bin_32, an_integer, a_text, an_array, a_bin}
-use Rattle.payload_rules.specs.Payloads.{Payload, HistoryCreate, KvSet, tag_of, SpellsPayload, PayloadOf, HistoryFits, HistoryTextsFit, written_history, written_payload}
-use Rattle.payload_rules.specs.Examples.{ls, ls_payload, WorkedCreation, WorkedItems, WorkedPayloads}
+use Rattle.payload_rules.specs.Items.{bin_8, bin_32, bin_head, shortest_bin, an_integer, a_text, an_array, a_bin}
+use Rattle.payload_rules.specs.Payloads.{Payload, HistoryCreate, KvSet, tag_of, SpellsPayload, PayloadOf, TimeFits, HistoryFits, HistoryTextsFit, written_history, written_payload}
+use Rattle.payload_rules.specs.Examples.{ls, ls_payload, WorkedCreation, WorkedItems, WorkedPayloads, WorkedRanges}
 use Rattle.payload_rules.proofs.Items.{first_items}
 use Rattle.payload_rules.proofs.Payloads.{payloads_apart}
 use Rattle.payload_rules.proofs.Written.{written_spelled}
@@ -74,6 +75,10 @@ items = record {
   wide_duration = (int_64, record { sfits = omega arith }, refl);
   empty_bin = record { form = bin_8; fits = omega arith; are = refl };
   wide_bin = record { form = bin_32; fits = omega arith; are = refl };
+  most_of_8 = λ held e. ap (λ (n : ℕ). bin_head (shortest_bin n) n ++ held) e;
+  least_of_16 = λ held e. ap (λ (n : ℕ). bin_head (shortest_bin n) n ++ held) e;
+  most_of_16 = λ held e. ap (λ (n : ℕ). bin_head (shortest_bin n) n ++ held) e;
+  least_of_32 = λ held e. ap (λ (n : ℕ). bin_head (shortest_bin n) n ++ held) e;
 }
 
 -- ---- the other payloads
@@ -81,3 +86,39 @@ items = record {
 pub payloads : WorkedPayloads
 unfolding id_text
 payloads = record { deleted = refl; key = refl; alias = refl; no_alias = refl; wide_times = refl; deletion_tag = refl; key_tag = refl; alias_tags = (refl, refl) }
+
+-- ---- ranges
+
+pub ranges : WorkedRanges
+ranges = record {
+  greatest_fits = record { id = omega arith; timestamp = omega arith; duration = record { sfits = omega arith }; exit = record { sfits = omega arith }; deleted_at = omega arith };
+  undeleted_fits = ls_fits;
+  id_above = λ h e fits. let low = fits.id in omega arith;
+  timestamp_above = λ h e fits. let low = fits.timestamp in omega arith;
+  duration_above = λ h e fits. let low = fits.duration in signed_above (subst (λ (z : ℤ). FitsSigned w64 z) e low);
+  exit_below = λ h e fits. let low = fits.exit in signed_below (subst (λ (z : ℤ). FitsSigned w64 z) e low);
+  deleted_above = λ h e fits. let low : 0x10000000000000000 < 2 ^ 64 = subst (λ (time : Option ℕ). TimeFits time) e fits.deleted_at in omega arith;
+  deletion_fits = omega arith;
+  deletion_above = λ fits. let low : 0x100000000000000000000000000000000 < 2 ^ 128 = fits in omega arith;
+  key_fits = λ namespace key value. tt;
+  alias_fits = λ name value. tt;
+  no_alias_fits = λ name. tt;
+  text_at_most = λ text utf8 e. record { utf8 = utf8; short = omega arith };
+  text_above = λ text e fits. let low = fits.short in omega arith;
+  no_text = λ text other fits. other fits.utf8;
+  of_key = λ text fits. (fits, fits, fits);
+  of_alias = λ text fits. ((fits, fits), fits);
+  of_deletion = λ id. tt;
+  key_above = λ namespace key value other fits. other fits.1;
+  alias_above = λ name value other fits. other fits.0;
+  no_alias_above = λ name other fits. other fits;
+  bin_at_most = λ h command cwd session hostname e. record { command = command; cwd = cwd; session = session; hostname = hostname; held = omega arith };
+  bin_above = λ h e fits. let low = fits.held in omega arith;
+  session_above = λ h other fits. other fits.session;
+}
+  where
+    signed_above : FitsSigned w64 (pos 0x8000000000000000) → ⊥
+    signed_above fits = let low = fits.sfits in omega arith
+
+    signed_below : FitsSigned w64 (negsuc 0x8000000000000000) → ⊥
+    signed_below fits = let low = fits.sfits in omega arith

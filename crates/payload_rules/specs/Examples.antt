@@ -1,9 +1,10 @@
 -- Worked examples: the bytes of one command that ended, and items in shorter and wider spellings.
 use Rattle.std.specs.Prelude.{◌≡◌, ℕ, pos, negsuc, List, [], ◌∷◌, ◌++◌, length, codes, Some, None}
+use Rattle.std.specs.Str.{IsUtf8}
 use Rattle.definitions.specs.Journal.{HistoryRecord}
 use Rattle.definitions.specs.Spelling.{SpellsInteger, written_integer}
-use Rattle.payload_rules.specs.Items.{SpellsBin}
-use Rattle.payload_rules.specs.Payloads.{Payload, HistoryCreate, HistoryDelete, KvSet, AliasSet, AliasDelete, tag_of, PayloadOf, written_payload}
+use Rattle.payload_rules.specs.Items.{SpellsBin, written_bin}
+use Rattle.payload_rules.specs.Payloads.{Payload, HistoryCreate, HistoryDelete, KvSet, AliasSet, AliasDelete, tag_of, PayloadFits, PayloadOf, written_history, written_payload, TextsFit}
 
 -- `ls` in `/`, session `s1`, on `h:u`, ended after 1,000 nanoseconds with status 0
 abbrev pub ls : HistoryRecord
@@ -31,6 +32,11 @@ pub record WorkedItems : Type 0 where
   -- the empty bin, in one byte of length and in four
   pub empty_bin : SpellsBin [] (0xc4 ∷ 0x00 ∷ [])
   pub wide_bin : SpellsBin [] (0xc6 ∷ 0x00 ∷ 0x00 ∷ 0x00 ∷ 0x00 ∷ [])
+  -- the most bytes whose length is written in one byte, and in two, and one more
+  pub most_of_8 : (held : List ℕ) → length held ≡ 255 → written_bin held ≡ 0xc4 ∷ 0xff ∷ held
+  pub least_of_16 : (held : List ℕ) → length held ≡ 256 → written_bin held ≡ 0xc5 ∷ 0x01 ∷ 0x00 ∷ held
+  pub most_of_16 : (held : List ℕ) → length held ≡ 65535 → written_bin held ≡ 0xc5 ∷ 0xff ∷ 0xff ∷ held
+  pub least_of_32 : (held : List ℕ) → length held ≡ 65536 → written_bin held ≡ 0xc6 ∷ 0x00 ∷ 0x01 ∷ 0x00 ∷ 0x00 ∷ held
 
 -- a command at time 0 that was deleted at time 1, with the least id, a duration and an exit status of -1, and empty texts
 abbrev pub least : HistoryRecord
@@ -48,3 +54,37 @@ pub record WorkedPayloads : Type 0 where
   pub deletion_tag : tag_of (HistoryDelete ls.id) ≡ codes "history"
   pub key_tag : tag_of (KvSet (codes "n") (codes "k") (codes "v")) ≡ codes "kv"
   pub alias_tags : (tag_of (AliasSet (codes "g") (codes "git")) ≡ codes "dotfiles-shell-alias") × (tag_of (AliasDelete (codes "g")) ≡ codes "dotfiles-shell-alias")
+
+-- a command whose id, times and duration are the greatest, and whose exit status is the least
+abbrev pub greatest : HistoryRecord
+greatest = record { id = 0xffffffffffffffffffffffffffffffff; timestamp = 0xffffffffffffffff; duration = pos 0x7fffffffffffffff; exit = negsuc 0x7fffffffffffffff; command = []; cwd = []; session = []; hostname = []; deleted_at = Some 0xffffffffffffffff }
+
+-- numbers and texts at their limits, and one above
+pub record WorkedRanges : Type 0 where
+  pub greatest_fits : PayloadFits (HistoryCreate greatest)
+  pub undeleted_fits : PayloadFits (HistoryCreate ls)
+  pub id_above : (h : HistoryRecord) → h.id ≡ 0x100000000000000000000000000000000 → PayloadFits (HistoryCreate h) → ⊥
+  pub timestamp_above : (h : HistoryRecord) → h.timestamp ≡ 0x10000000000000000 → PayloadFits (HistoryCreate h) → ⊥
+  pub duration_above : (h : HistoryRecord) → h.duration ≡ pos 0x8000000000000000 → PayloadFits (HistoryCreate h) → ⊥
+  pub exit_below : (h : HistoryRecord) → h.exit ≡ negsuc 0x8000000000000000 → PayloadFits (HistoryCreate h) → ⊥
+  pub deleted_above : (h : HistoryRecord) → h.deleted_at ≡ Some 0x10000000000000000 → PayloadFits (HistoryCreate h) → ⊥
+  pub deletion_fits : PayloadFits (HistoryDelete 0xffffffffffffffffffffffffffffffff)
+  pub deletion_above : PayloadFits (HistoryDelete 0x100000000000000000000000000000000) → ⊥
+  -- keys and aliases have no numbers
+  pub key_fits : (namespace key value : List ℕ) → PayloadFits (KvSet namespace key value)
+  pub alias_fits : (name value : List ℕ) → PayloadFits (AliasSet name value)
+  pub no_alias_fits : (name : List ℕ) → PayloadFits (AliasDelete name)
+  -- a text of 4,294,967,295 bytes can be written wherever one stands, and one that is longer or no UTF-8 nowhere
+  pub text_at_most : (text : List ℕ) → IsUtf8 text → length text ≡ 0xffffffff → TextFits text
+  pub text_above : (text : List ℕ) → length text ≡ 0x100000000 → TextFits text → ⊥
+  pub no_text : (text : List ℕ) → (IsUtf8 text → ⊥) → TextFits text → ⊥
+  pub of_key : (text : List ℕ) → TextFits text → TextsFit (KvSet text text text)
+  pub of_alias : (text : List ℕ) → TextFits text → TextsFit (AliasSet text text) × TextsFit (AliasDelete text)
+  pub of_deletion : (id : ℕ) → TextsFit (HistoryDelete id)
+  pub key_above : (namespace key value : List ℕ) → (TextFits key → ⊥) → TextsFit (KvSet namespace key value) → ⊥
+  pub alias_above : (name value : List ℕ) → (TextFits name → ⊥) → TextsFit (AliasSet name value) → ⊥
+  pub no_alias_above : (name : List ℕ) → (TextFits name → ⊥) → TextsFit (AliasDelete name) → ⊥
+  -- and so it is with what the bin of a command holds
+  pub bin_at_most : (h : HistoryRecord) → TextFits h.command → TextFits h.cwd → TextFits h.session → TextFits h.hostname → length (written_history h) ≡ 0xffffffff → TextsFit (HistoryCreate h)
+  pub bin_above : (h : HistoryRecord) → length (written_history h) ≡ 0x100000000 → TextsFit (HistoryCreate h) → ⊥
+  pub session_above : (h : HistoryRecord) → (TextFits h.session → ⊥) → TextsFit (HistoryCreate h) → ⊥

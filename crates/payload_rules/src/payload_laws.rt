@@ -5,7 +5,7 @@ ghost use Rattle.definitions.specs.Spelling.{IsBytes};
 ghost use Rattle.payload_rules.specs.Items.{Item, SpellsItem, SpellsBin};
 ghost use Rattle.payload_rules.specs.Payloads.{Payload, PayloadOf, PayloadFits, TextsFit, tag_of, payload_version, written_payload};
 ghost use Rattle.payload_rules.specs.Reading.{bin_at};
-ghost use Rattle.payload_rules.specs.Examples.{WorkedCreation, WorkedItems, WorkedPayloads};
+ghost use Rattle.payload_rules.specs.Examples.{WorkedCreation, WorkedItems, WorkedPayloads, WorkedRanges};
 
 /// No spelling of an item begins another one, of whichever kind: the first byte tells the kind, and the
 /// bytes the item.
@@ -50,4 +50,9 @@ pub fn worked_items()
 /// The other payloads, in the bytes that are written for them.
 pub fn worked_payloads()
     ensures { WorkedPayloads }
+{}
+
+/// Numbers and texts at their limits, and one above.
+pub fn worked_ranges()
+    ensures { WorkedRanges }
 {}

@@ -6,6 +6,7 @@
 #![tactic(auto)]
 
 ghost use Rattle.crash_rules.specs.Laws.{CrashLeavesOneOfTwo, SinceLeavesOneOfTwo, AppendStands, SettlingLeavesOneOfTwo, SettledStands};
+ghost use Rattle.crash_rules.specs.Examples.{WorkedCrash};
 
 /// At each moment of an append to a log at rest, also within a call and after one that failed, each image
 /// stands for the journal as it was, or for the journal with the batch.
@@ -32,4 +33,10 @@ pub fn settling_leaves_one_of_two()
 /// After a batch in doubt was settled, each image stands for the journal with the batch.
 pub fn settled_stands()
     ensures { SettledStands }
+{}
+
+/// The log of a new store, worked out: when a batch may be appended or settled, and which logs are the
+/// journal before it and after it.
+pub fn worked_crash()
+    ensures { WorkedCrash }
 {}

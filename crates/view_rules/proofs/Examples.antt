@@ -19,14 +19,14 @@ use Rattle.view_rules.proofs.Searches.{search_one}
 
 -- ---- members of short lists
 
-one_of_one : (P : SealedRecord → Type 0) (a r : SealedRecord) → Contains (a ∷ []) r → P a → P r
+pub one_of_one : (P : SealedRecord → Type 0) (a r : SealedRecord) → Contains (a ∷ []) r → P a → P r
 one_of_one P a r c at_a = by (Has-from_Contains (a ∷ []) r c)
   where
     by : Has (a ∷ []) r → P r
     by (inl e) = subst P e at_a
     by (inr none) = absurd none
 
-one_of_two : (P : SealedRecord → Type 0) (a b r : SealedRecord) → Contains (a ∷ b ∷ []) r → P a → P b → P r
+pub one_of_two : (P : SealedRecord → Type 0) (a b r : SealedRecord) → Contains (a ∷ b ∷ []) r → P a → P b → P r
 one_of_two P a b r c at_a at_b = by (Has-from_Contains (a ∷ b ∷ []) r c)
   where
     by : Has (a ∷ b ∷ []) r → P r
@@ -34,10 +34,10 @@ one_of_two P a b r c at_a at_b = by (Has-from_Contains (a ∷ b ∷ []) r c)
     by (inr (inl e)) = subst P e at_b
     by (inr (inr none)) = absurd none
 
-first_one : (a b : SealedRecord) → Contains (a ∷ b ∷ []) a
+pub first_one : (a b : SealedRecord) → Contains (a ∷ b ∷ []) a
 first_one a b = (0, omega arith, refl)
 
-second_one : (a b : SealedRecord) → Contains (a ∷ b ∷ []) b
+pub second_one : (a b : SealedRecord) → Contains (a ∷ b ∷ []) b
 second_one a b = (1, omega arith, refl)
 
 -- ---- commands
@@ -110,15 +110,12 @@ alive_greater_idx = alive_where greater_idx (ended_at 9 300 (codes "cd") None) r
 abbrev NotBefore : SealedRecord → SealedRecord → Type 0
 NotBefore r s = origin_cmp s r ≡ Less → ⊥
 
-ls_shown : ShowsHistory history_opens (creation ∷ []) ls
-ls_shown = (
-  creation,
-  record {
-    created = record { among = (0, omega arith, refl); opened = refl };
-    alive = not_dead (creation ∷ []) (λ r c. one_of_one IsAlive creation r c alive_creation) 9;
-    first = λ s other made same less. one_of_one (NotBefore creation) creation s made.among (λ e. cc) less;
-  },
-)
+pub ls_created : InHistory history_opens (creation ∷ []) creation (ended_at 9 100 (codes "ls") None)
+ls_created = record {
+  created = record { among = (0, omega arith, refl); opened = refl };
+  alive = not_dead (creation ∷ []) (λ r c. one_of_one IsAlive creation r c alive_creation) 9;
+  first = λ s other made same less. one_of_one (NotBefore creation) creation s made.among (λ e. cc) less;
+}
 
 pwd_shown : ShowsHistory history_opens (creation ∷ lesser_host ∷ []) pwd
 pwd_shown = (
@@ -198,7 +195,7 @@ none_found records hidden asked page answer = search_one history_opens records a
 
 pub history : WorkedHistory
 history = record {
-  shown = ls_shown;
+  shown = (creation, ls_created);
   deleted_before = hidden_before;
   deleted_after = hidden_after;
   deleted_at = hidden_by_creation;
@@ -239,7 +236,7 @@ three_out_of_order = (
   },
 )
 
-three_not_ended : ShowsAlias alias_opens (of_host_3 ∷ ended_earlier ∷ []) (codes "g") (codes "three")
+pub three_not_ended : ShowsAlias alias_opens (of_host_3 ∷ ended_earlier ∷ []) (codes "g") (codes "three")
 three_not_ended = (
   of_host_3,
   record {
@@ -259,7 +256,7 @@ two_hidden shown = one_of_two (λ r. InAliases alias_opens (of_host_3 ∷ of_hos
     (λ p. three_is_not_two p.set.opened)
     (λ p. p.last of_host_3 (inl (codes "three", record { among = first_one of_host_3 of_host_2; opened = refl })) refl) shown.1
 
-ended_hidden : (value : List ℕ) → ShowsAlias alias_opens (ended_later ∷ of_host_3 ∷ []) (codes "g") value → ⊥
+pub ended_hidden : (value : List ℕ) → ShowsAlias alias_opens (ended_later ∷ of_host_3 ∷ []) (codes "g") value → ⊥
 ended_hidden value shown = one_of_two (λ r. InAliases alias_opens (ended_later ∷ of_host_3 ∷ []) (codes "g") value r → ⊥) ended_later of_host_3 shown.0 shown.1.set.among
     (λ p. let e = p.set.opened in cc)
     (λ p. p.last ended_later (inr (record { among = first_one ended_later of_host_3; opened = refl })) refl) shown.1
@@ -288,10 +285,10 @@ aliases = record {
 k_is_not_x : codes "k" ≡ codes "x" → ⊥
 k_is_not_x e = let letters : ◌≡◌ {A = ℕ} 107 120 = ap (λ (text : List ℕ). get_or text 0 0) e in omega arith
 
-n_is_not_x : codes "n" ≡ codes "x" → ⊥
+pub n_is_not_x : codes "n" ≡ codes "x" → ⊥
 n_is_not_x e = let letters : ◌≡◌ {A = ℕ} 110 120 = ap (λ (text : List ℕ). get_or text 0 0) e in omega arith
 
-key_of : (namespace key value a b c : List ℕ) → Some (KvSet namespace key value) ≡ Some (KvSet a b c) → (namespace ≡ a) × (key ≡ b)
+pub key_of : (namespace key value a b c : List ℕ) → Some (KvSet namespace key value) ≡ Some (KvSet a b c) → (namespace ≡ a) × (key ≡ b)
 key_of namespace key value a b c e = (cc, cc)
 
 x_hidden : (value : List ℕ) → ShowsKv kv_opens (early ∷ []) (codes "n") (codes "x") value → ⊥
@@ -313,15 +310,15 @@ early_hidden shown = one_of_two (λ r. InKv kv_opens (late ∷ early ∷ []) (co
     (λ p. late_is_not_early p.set.opened)
     (λ p. p.last late (codes "late") (record { among = first_one late early; opened = refl }) refl) shown.1
 
+pub early_set : InKv kv_opens (early ∷ []) (codes "n") (codes "k") (codes "early") early
+early_set = record {
+  set = record { among = (0, omega arith, refl); opened = refl };
+  last = λ s other sets less. one_of_one (NotAfter early) early s sets.among (λ e. cc) less;
+}
+
 pub keys : WorkedKeys
 keys = record {
-  set = (
-    early,
-    record {
-      set = record { among = (0, omega arith, refl); opened = refl };
-      last = λ s other sets less. one_of_one (NotAfter early) early s sets.among (λ e. cc) less;
-    },
-  );
+  set = (early, early_set);
   other_key = x_hidden;
   other_namespace = x_space_hidden;
   later = (
@@ -374,4 +371,8 @@ searches = record {
   folded = refl;
   other_session = refl;
   own_session = refl;
+  other_hostname = refl;
+  own_hostname = refl;
+  other_cwd = refl;
+  own_cwd = refl;
 }

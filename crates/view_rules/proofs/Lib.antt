@@ -6,3 +6,4 @@ pub mod Latest
 pub mod Lists
 pub mod Examples
 pub mod ListExamples
+pub mod ViewExamples

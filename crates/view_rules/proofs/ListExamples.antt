@@ -44,7 +44,7 @@ three_rise : Rises all_three
 three_rise = ((refl, (refl, tt)), ((refl, tt), (tt, tt)))
 
 -- a page of all that is left
-whole_list : (limit : ℕ) (There : Named → Type 0) (after : List ℕ) (page : List Named) → ((item : Named) → Contains page item ↔ (There item × IsAbove after item.name)) → Rises page → FitsPage named_bytes limit page → IsListOf There after limit page
+pub whole_list : (limit : ℕ) (There : Named → Type 0) (after : List ℕ) (page : List Named) → ((item : Named) → Contains page item ↔ (There item × IsAbove after item.name)) → Rises page → FitsPage named_bytes limit page → IsListOf There after limit page
 whole_list limit There after page same rises fits = record { all = page; same = same; rises = rises; cut = record { rest = []; front = sym (append-nil page); fits = fits; most = λ next others e more. absurd cc } }
 
 -- ---- above a name

@@ -2,11 +2,12 @@
 use Rattle.std.specs.Prelude.{◌≡◌, ℕ, pos, List, [], ◌∷◌, length, codes, Bool, true, false, Option, Some, None, ◌⊎◌, ◌==◌, if◌then◌else◌}
 use Rattle.definitions.specs.Calls.{SearchMode, by_prefix, by_substring}
 use Rattle.definitions.specs.Journal.{HistoryRecord}
+use Rattle.definitions.specs.Search.{FitsPage}
 use Rattle.record_rules.specs.Records.{SealedRecord}
 use Rattle.payload_rules.specs.Payloads.{Payload, HistoryCreate, HistoryDelete, KvSet, AliasSet, AliasDelete, history_tag, kv_tag, alias_tag, payload_version}
 use Rattle.view_rules.specs.Views.{Opening, ShowsHistory, ShowsKv, ShowsAlias}
-use Rattle.definitions.specs.Search.{FitsPage}
-use Rattle.view_rules.specs.Answers.{Scope, of_all, of_session, ScopedQuery, is_found, IsScopedAnswer, SearchAnswer, Named, named_bytes, IsListOf}
+use Rattle.view_rules.specs.Answers.{Scope, of_all, of_hostname, of_session, of_cwd, ScopedQuery, is_found, IsScopedAnswer, SearchAnswer, Named, named_bytes, IsListOf, KvListAnswer, AliasListAnswer}
+use Rattle.view_rules.specs.Laws.{SameRecords, SameViews}
 
 -- ---- records that open by their id
 
@@ -160,6 +161,10 @@ pub record WorkedSearches : Type 0 where
   pub folded : is_found (search_for of_all false by_substring (codes "stat") 0 10) git ≡ true
   pub other_session : is_found (search_for (of_session (codes "s2")) false by_prefix [] 0 10) git ≡ false
   pub own_session : is_found (search_for (of_session (codes "s1")) false by_prefix [] 0 10) git ≡ true
+  pub other_hostname : is_found (search_for (of_hostname (codes "s1")) false by_prefix [] 0 10) git ≡ false
+  pub own_hostname : is_found (search_for (of_hostname (codes "h:u")) false by_prefix [] 0 10) git ≡ true
+  pub other_cwd : is_found (search_for (of_cwd (codes "h:u")) false by_prefix [] 0 10) git ≡ false
+  pub own_cwd : is_found (search_for (of_cwd (codes "/")) false by_prefix [] 0 10) git ≡ true
 
 -- ---- lists of names: `b`, the empty name and `a`, of which the list has no values
 
@@ -181,3 +186,35 @@ pub record WorkedLists : Type 0 where
   pub at_most : (value : List ℕ) → length value ≡ 4194302 → FitsPage named_bytes 10 (record { name = codes "a"; value = value } ∷ named (codes "b") ∷ [])
   pub above : (value : List ℕ) → length value ≡ 4194303 → FitsPage named_bytes 10 (record { name = codes "a"; value = value } ∷ named (codes "b") ∷ []) → ⊥
   pub single : (value : List ℕ) → length value ≡ 5000000 → FitsPage named_bytes 10 (record { name = codes "a"; value = value } ∷ [])
+
+-- ---- lists that are the same, and the names that views show
+
+-- records that open as others do, and stand at another host
+abbrev pub creation_elsewhere : SealedRecord
+creation_elsewhere = record_at 7 0 history_tag 10 1
+
+abbrev pub early_elsewhere : SealedRecord
+early_elsewhere = record_at 7 4 kv_tag 5 1
+
+abbrev pub alias_elsewhere : SealedRecord
+alias_elsewhere = record_at 7 0 alias_tag 5 2
+
+pub record WorkedViews : Type 0 where
+  -- the same records in another order, one of them twice; and lists of which one has a record more
+  pub same_set : SameRecords (creation ∷ deletion ∷ []) (deletion ∷ creation ∷ creation ∷ [])
+  pub one_less : SameRecords (creation ∷ deletion ∷ []) (creation ∷ []) → ⊥
+  pub one_more : SameRecords (creation ∷ []) (creation ∷ deletion ∷ []) → ⊥
+  -- an id that is dead in one of two alone, though neither shows a command
+  pub dead_in_one : SameViews history_opens (deletion ∷ []) [] → ⊥
+  -- the same command, value and alias, each of another record
+  pub other_creation : SameViews history_opens (creation ∷ []) (creation_elsewhere ∷ []) → ⊥
+  pub other_setting : SameViews kv_opens (early ∷ []) (early_elsewhere ∷ []) → ⊥
+  pub other_alias : SameViews alias_opens (of_host_3 ∷ []) (alias_elsewhere ∷ []) → ⊥
+  -- a key that was set twice is listed once, without a value, and not above itself or in another namespace
+  pub key_listed : KvListAnswer kv_opens (late ∷ early ∷ []) (codes "n") [] 10 (named (codes "k") ∷ [])
+  pub no_key_above : KvListAnswer kv_opens (late ∷ early ∷ []) (codes "n") (codes "k") 10 []
+  pub no_other_key : KvListAnswer kv_opens (late ∷ early ∷ []) (codes "x") [] 10 []
+  -- an alias is listed with its value, and one that was ended isn't
+  pub alias_listed : AliasListAnswer alias_opens (of_host_3 ∷ ended_earlier ∷ []) [] 10 (record { name = codes "g"; value = codes "three" } ∷ [])
+  pub no_alias_above : AliasListAnswer alias_opens (of_host_3 ∷ ended_earlier ∷ []) (codes "g") 10 []
+  pub ended_unlisted : AliasListAnswer alias_opens (ended_later ∷ of_host_3 ∷ []) [] 10 []

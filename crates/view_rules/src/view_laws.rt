@@ -1,7 +1,7 @@
 //! The laws of the views. Each is a function that does nothing, whose contract is the law.
 
 ghost use Rattle.view_rules.specs.Laws.{SetMakesViews, ChainsMakeViews, SoundHasOwnSpots, IdHasOneCommand, KeyHasOneValue, NameHasOneValue, PlainSearchIsOfAll, SearchHasOneAnswer, KeysHaveOneAnswer, NamesHaveOneAnswer, LivingIdIsShown, SetKeyIsShown, SetNameIsShown};
-ghost use Rattle.view_rules.specs.Examples.{WorkedHistory, WorkedAliases, WorkedKeys, WorkedLists, WorkedSearches};
+ghost use Rattle.view_rules.specs.Examples.{WorkedHistory, WorkedAliases, WorkedKeys, WorkedLists, WorkedSearches, WorkedViews};
 
 /// Two lists with the same records show the same, in whatever order the records came and however often
 /// each: the same dead ids, commands, values, aliases, searches and lists of names.
@@ -90,4 +90,9 @@ pub fn worked_keys()
 /// Searches of three commands of which two are equal, and what matches.
 pub fn worked_searches()
     ensures { WorkedSearches }
+{}
+
+/// Lists of the same records and lists that aren't, and lists of a key and of an alias.
+pub fn worked_views()
+    ensures { WorkedViews }
 {}

@@ -67,14 +67,14 @@ ended_batch = record {
   body = omega arith;
 }
   where
-    no_bytes : IsText []
-    no_bytes = record { utf8 = IsUtf8-from_ascii [] IsAscii-nil; fits = omega arith }
+    no_bytes : TextFits []
+    no_bytes = record { utf8 = IsUtf8-from_ascii [] IsAscii-nil; short = omega arith }
 
-    version_text : IsText (codes "v0")
-    version_text = record { utf8 = IsUtf8-from_ascii (codes "v0") (ascii_cons 0x76 (0x30 ∷ []) (omega arith) (ascii_cons 0x30 [] (omega arith) IsAscii-nil)); fits = omega arith }
+    version_text : TextFits (codes "v0")
+    version_text = record { utf8 = IsUtf8-from_ascii (codes "v0") (ascii_cons 0x76 (0x30 ∷ []) (omega arith) (ascii_cons 0x30 [] (omega arith) IsAscii-nil)); short = omega arith }
 
-    tag_text : IsText (codes "history")
-    tag_text = record { utf8 = IsUtf8-from_ascii (codes "history") (ascii_cons 0x68 (codes "istory") (omega arith) (ascii_cons 0x69 (codes "story") (omega arith) (ascii_cons 0x73 (codes "tory") (omega arith) (ascii_cons 0x74 (codes "ory") (omega arith) (ascii_cons 0x6f (codes "ry") (omega arith) (ascii_cons 0x72 (codes "y") (omega arith) (ascii_cons 0x79 [] (omega arith) IsAscii-nil))))))); fits = omega arith }
+    tag_text : TextFits (codes "history")
+    tag_text = record { utf8 = IsUtf8-from_ascii (codes "history") (ascii_cons 0x68 (codes "istory") (omega arith) (ascii_cons 0x69 (codes "story") (omega arith) (ascii_cons 0x73 (codes "tory") (omega arith) (ascii_cons 0x74 (codes "ory") (omega arith) (ascii_cons 0x6f (codes "ry") (omega arith) (ascii_cons 0x72 (codes "y") (omega arith) (ascii_cons 0x79 [] (omega arith) IsAscii-nil))))))); short = omega arith }
 
 ended_sound : Sound (ls_entry ∷ ended_entry ∷ []) 1
 ended_sound = Sound-push (ls_entry ∷ []) ended_entry 1 ls_sound (record {
@@ -161,8 +161,8 @@ bodies = record {
 
 pub fields : WorkedFields
 fields = record {
-  text_at_most = λ text utf8 e. record { utf8 = utf8; fits = omega arith };
-  text_above = λ text e is. let low = is.fits in omega arith;
+  text_at_most = λ text utf8 e. record { utf8 = utf8; short = omega arith };
+  text_above = λ text e is. let low = is.short in omega arith;
   no_text = λ text other is. other is.utf8;
   started_at_most = λ text is. record { id = omega arith; timestamp = omega arith; command = is; cwd = is; session = is; hostname = is };
   started_id_above = λ s e has. let low = has.id in omega arith;

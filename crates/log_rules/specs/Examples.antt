@@ -1,9 +1,10 @@
 -- Worked examples: a new log, and the log of one started command, byte by byte.
 use Rattle.std.specs.Prelude.{◌≡◌, ℕ, List, [], ◌∷◌, ◌++◌, length, take, drop, replicate, slice_get, codes, Option, Some, None}
 use Rattle.std.specs.Str.{IsUtf8}
+use Rattle.definitions.specs.Spelling.{TextFits}
 use Rattle.definitions.specs.Journal.{StartedRecord}
 use Rattle.record_rules.specs.Records.{SealedRecord, Entry, Event, Started, Local, Taken}
-use Rattle.log_rules.specs.Body.{IsText, HasEventBytes, event_bytes, body_bytes, IsBatch}
+use Rattle.log_rules.specs.Body.{HasEventBytes, event_bytes, body_bytes, IsBatch}
 use Rattle.log_rules.specs.Log.{NotALog, header_bytes, batch_bytes, StandsFor, DamagedAt, header_fault}
 
 -- the id 018bcfe5-6800-7001-8203-040506070809
@@ -72,23 +73,23 @@ pub record WorkedBodies : Type 0 where
 -- which events have bytes: numbers and texts at their limits, and one above
 pub record WorkedFields : Type 0 where
   -- a text of 4,294,967,295 bytes, and one that is longer or no UTF-8
-  pub text_at_most : (text : List ℕ) → IsUtf8 text → length text ≡ 0xffffffff → IsText text
-  pub text_above : (text : List ℕ) → length text ≡ 0x100000000 → IsText text → ⊥
-  pub no_text : (text : List ℕ) → (IsUtf8 text → ⊥) → IsText text → ⊥
+  pub text_at_most : (text : List ℕ) → IsUtf8 text → length text ≡ 0xffffffff → TextFits text
+  pub text_above : (text : List ℕ) → length text ≡ 0x100000000 → TextFits text → ⊥
+  pub no_text : (text : List ℕ) → (IsUtf8 text → ⊥) → TextFits text → ⊥
   -- ids and hosts of 128 bits, timestamps and idx of 64, and an owner of 32
-  pub started_at_most : (text : List ℕ) → IsText text → HasEventBytes (Started (record { id = 0xffffffffffffffffffffffffffffffff; timestamp = 0xffffffffffffffff; command = text; cwd = text; session = text; hostname = text }))
+  pub started_at_most : (text : List ℕ) → TextFits text → HasEventBytes (Started (record { id = 0xffffffffffffffffffffffffffffffff; timestamp = 0xffffffffffffffff; command = text; cwd = text; session = text; hostname = text }))
   pub started_id_above : (s : StartedRecord) → s.id ≡ 0x100000000000000000000000000000000 → HasEventBytes (Started s) → ⊥
   pub started_timestamp_above : (s : StartedRecord) → s.timestamp ≡ 0x10000000000000000 → HasEventBytes (Started s) → ⊥
-  pub hostname_above : (s : StartedRecord) → (IsText s.hostname → ⊥) → HasEventBytes (Started s) → ⊥
-  pub made_here_at_most : (text : List ℕ) → IsText text → HasEventBytes (Local (Some 0xffffffffffffffffffffffffffffffff) (record { id = 0xffffffffffffffffffffffffffffffff; idx = 0xffffffffffffffff; host = 0xffffffffffffffffffffffffffffffff; host_name = text; timestamp = 0xffffffffffffffff; version = text; tag = text; sealed = text; wrapped = text }))
+  pub hostname_above : (s : StartedRecord) → (TextFits s.hostname → ⊥) → HasEventBytes (Started s) → ⊥
+  pub made_here_at_most : (text : List ℕ) → TextFits text → HasEventBytes (Local (Some 0xffffffffffffffffffffffffffffffff) (record { id = 0xffffffffffffffffffffffffffffffff; idx = 0xffffffffffffffff; host = 0xffffffffffffffffffffffffffffffff; host_name = text; timestamp = 0xffffffffffffffff; version = text; tag = text; sealed = text; wrapped = text }))
   pub closed_above : (r : SealedRecord) → HasEventBytes (Local (Some 0x100000000000000000000000000000000) r) → ⊥
-  pub taken_in_at_most : (text : List ℕ) → IsText text → HasEventBytes (Taken 0xffffffff (record { id = 0; idx = 0; host = 0; host_name = text; timestamp = 0; version = text; tag = text; sealed = text; wrapped = text }))
+  pub taken_in_at_most : (text : List ℕ) → TextFits text → HasEventBytes (Taken 0xffffffff (record { id = 0; idx = 0; host = 0; host_name = text; timestamp = 0; version = text; tag = text; sealed = text; wrapped = text }))
   pub owner_above : (r : SealedRecord) → HasEventBytes (Taken 0x100000000 r) → ⊥
   pub id_above : (closes : Option ℕ) (r : SealedRecord) → r.id ≡ 0x100000000000000000000000000000000 → HasEventBytes (Local closes r) → ⊥
   pub idx_above : (closes : Option ℕ) (r : SealedRecord) → r.idx ≡ 0x10000000000000000 → HasEventBytes (Local closes r) → ⊥
   pub host_above : (owner : ℕ) (r : SealedRecord) → r.host ≡ 0x100000000000000000000000000000000 → HasEventBytes (Taken owner r) → ⊥
   pub timestamp_above : (owner : ℕ) (r : SealedRecord) → r.timestamp ≡ 0x10000000000000000 → HasEventBytes (Taken owner r) → ⊥
-  pub wrapped_above : (owner : ℕ) (r : SealedRecord) → (IsText r.wrapped → ⊥) → HasEventBytes (Taken owner r) → ⊥
+  pub wrapped_above : (owner : ℕ) (r : SealedRecord) → (TextFits r.wrapped → ⊥) → HasEventBytes (Taken owner r) → ⊥
 
 pub record WorkedNewLog : Type 0 where
   pub bytes : new_log worked_id ≡ 0x41 ∷ 0x54 ∷ 0x55 ∷ 0x4c ∷ 0x4f ∷ 0x47 ∷ 0x30 ∷ 0x31 ∷ 0x01 ∷ 0x8b ∷ 0xcf ∷ 0xe5 ∷ 0x68 ∷ 0x00 ∷ 0x70 ∷ 0x01 ∷ 0x82 ∷ 0x03 ∷ 0x04 ∷ 0x05 ∷ 0x06 ∷ 0x07 ∷ 0x08 ∷ 0x09 ∷ 0 ∷ 0 ∷ 0 ∷ 0 ∷ 0 ∷ 0 ∷ 0 ∷ 0 ∷ 0 ∷ []

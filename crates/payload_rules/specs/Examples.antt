@@ -2,7 +2,7 @@
 use Rattle.std.specs.Prelude.{◌≡◌, ℕ, pos, negsuc, List, [], ◌∷◌, ◌++◌, length, codes, Some, None}
 use Rattle.std.specs.Str.{IsUtf8}
 use Rattle.definitions.specs.Journal.{HistoryRecord}
-use Rattle.definitions.specs.Spelling.{SpellsInteger, written_integer}
+use Rattle.definitions.specs.Spelling.{SpellsInteger, TextFits, written_integer}
 use Rattle.payload_rules.specs.Items.{SpellsBin, written_bin}
 use Rattle.payload_rules.specs.Payloads.{Payload, HistoryCreate, HistoryDelete, KvSet, AliasSet, AliasDelete, tag_of, PayloadFits, PayloadOf, written_history, written_payload, TextsFit}
 

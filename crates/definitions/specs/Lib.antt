@@ -8,3 +8,4 @@ pub mod Replies
 pub mod Step
 pub mod Runs
 pub mod Reading
+pub mod Examples

@@ -4,6 +4,7 @@
 //! frames (`Frames`), how an id is made and printed (`Ids`), what a journal of plain commands is (`Journal`), which
 //! commands a search shows (`Search`), what a reply's bytes are (`Replies`), and what one request (`Step`) and a list of
 //! requests (`Runs`) do to a journal. `Reading` reads from left to right, as code does; nothing rests on it alone.
+//! `Examples` works the words out.
 //! No word names a type of the crates above: each mirrors what it needs by a small record of numbers and lists.
 #![tactic(auto)]
 
@@ -11,6 +12,7 @@ mod call_laws;
 mod frame_laws;
 mod run_laws;
 mod spelling_laws;
+mod worked;
 
 pub use call_laws::{
     a_made_id_is_of_version_7, a_payload_is_one_call_or_wrong_at_one_place,
@@ -27,4 +29,9 @@ pub use spelling_laws::{
     no_kind_begins_another, no_spelling_begins_another,
     no_spelling_is_shorter_than_the_written_one, what_is_read_is_spelled, what_is_spelled_is_read,
     what_is_written_is_spelled,
+};
+pub use worked::{
+    worked_arrays, worked_calls, worked_faults, worked_frames, worked_ids, worked_integers,
+    worked_journals, worked_matches, worked_no_items, worked_replies, worked_runs, worked_searches,
+    worked_steps, worked_streams, worked_texts, worked_wants,
 };

@@ -1,0 +1,433 @@
+-- The definitions worked out, with values written out by hand from the rule in words. Texts are ASCII where nothing
+-- else
+-- is said, and payloads and replies stand in bytes.
+use Rattle.std.specs.Prelude.{◌≡◌, ℕ, pos, negsuc, List, [], ◌∷◌, ◌++◌, length, map, codes, replicate, true, false, None}
+use Rattle.definitions.specs.Spelling.{IsBytes, SpellsInteger, IsInteger, IsSpellable, written_integer, text_head, SpellsText, IsText, shortest_text, written_text, SpellsArray, IsArray, written_array}
+use Rattle.definitions.specs.Frames.{frame, frames, named_length, NoWholeFrame, CutFrame, LongFrame, whole_stream, cut_stream, long_stream, StreamEnds, CutAfter}
+use Rattle.definitions.specs.Ids.{made_id, id_text}
+use Rattle.definitions.specs.Calls.{by_prefix, by_substring, SearchQuery, PlainCall, start_call, end_call, search_call, plain_kinds, SpellsCall, WrongAt}
+use Rattle.definitions.specs.Journal.{StartedRecord, HistoryRecord, JournalEntry, begun, ended, begun_in, ended_in, HaveOwnIds, was_begun, has_ended, finished, SoundJournal, FitsJournal}
+use Rattle.definitions.specs.Search.{compared, matches_by, is_shown_before, hit_bytes, FitsPage, IsPage, IsAnswer}
+use Rattle.definitions.specs.Replies.{PlainAnswer, began_id, stored_index, hit_list, unknown_id, random_fault, id_taken, no_memory, bad_request, is_plain_refusal, PlainReply, plain_reply_bytes}
+use Rattle.definitions.specs.Step.{Used, then_used, UsedFits, PlainStep}
+use Rattle.definitions.specs.Runs.{Run, IsSplitRun, random_faults}
+
+-- ---- items
+
+pub record WorkedIntegers : Type 0 where
+  -- the first and the last number of each unsigned form: 0, 2^7, 2^8, 2^16, 2^32, and one below 2^64
+  pub unsigned : map written_integer (pos 0 ∷ pos 127 ∷ pos 128 ∷ pos 255 ∷ pos 256 ∷ pos 65535 ∷ pos 65536 ∷ pos 4294967295 ∷ pos 4294967296 ∷ pos 18446744073709551615 ∷ [])
+      ≡ (0x00 ∷ []) ∷ (0x7f ∷ []) ∷ (0xcc ∷ 0x80 ∷ []) ∷ (0xcc ∷ 0xff ∷ []) ∷ (0xcd ∷ 0x01 ∷ 0x00 ∷ []) ∷ (0xcd ∷ 0xff ∷ 0xff ∷ []) ∷ (0xce ∷ 0x00 ∷ 0x01 ∷ 0x00 ∷ 0x00 ∷ []) ∷ (0xce ∷ 0xff ∷ 0xff ∷ 0xff ∷ 0xff ∷ [])
+      ∷ (0xcf ∷ 0x00 ∷ 0x00 ∷ 0x00 ∷ 0x01 ∷ 0x00 ∷ 0x00 ∷ 0x00 ∷ 0x00 ∷ []) ∷ (0xcf ∷ 0xff ∷ 0xff ∷ 0xff ∷ 0xff ∷ 0xff ∷ 0xff ∷ 0xff ∷ 0xff ∷ []) ∷ []
+  -- the greatest and the least of each negative one: -1, -32, -33, -2^7, -2^7 - 1, -2^15, -2^15 - 1, -2^31, -2^31 - 1,
+  -- -2^63
+  pub negative : map written_integer (negsuc 0 ∷ negsuc 31 ∷ negsuc 32 ∷ negsuc 127 ∷ negsuc 128 ∷ negsuc 32767 ∷ negsuc 32768 ∷ negsuc 2147483647 ∷ negsuc 2147483648 ∷ negsuc 9223372036854775807 ∷ [])
+      ≡ (0xff ∷ []) ∷ (0xe0 ∷ []) ∷ (0xd0 ∷ 0xdf ∷ []) ∷ (0xd0 ∷ 0x80 ∷ []) ∷ (0xd1 ∷ 0xff ∷ 0x7f ∷ []) ∷ (0xd1 ∷ 0x80 ∷ 0x00 ∷ []) ∷ (0xd2 ∷ 0xff ∷ 0xff ∷ 0x7f ∷ 0xff ∷ []) ∷ (0xd2 ∷ 0x80 ∷ 0x00 ∷ 0x00 ∷ 0x00 ∷ [])
+      ∷ (0xd3 ∷ 0xff ∷ 0xff ∷ 0xff ∷ 0xff ∷ 0x7f ∷ 0xff ∷ 0xff ∷ 0xff ∷ []) ∷ (0xd3 ∷ 0x80 ∷ 0x00 ∷ 0x00 ∷ 0x00 ∷ 0x00 ∷ 0x00 ∷ 0x00 ∷ 0x00 ∷ []) ∷ []
+  -- 49,206,000 in two widths, the first of which is written
+  pub in_32_bits : SpellsInteger (pos 49206000) (0xce ∷ 0x02 ∷ 0xee ∷ 0xd2 ∷ 0xf0 ∷ [])
+  pub in_64_bits : SpellsInteger (pos 49206000) (0xd3 ∷ 0x00 ∷ 0x00 ∷ 0x00 ∷ 0x00 ∷ 0x02 ∷ 0xee ∷ 0xd2 ∷ 0xf0 ∷ [])
+  -- 5 in a fixint, in 16 bits, and in 8 bits with a sign; -5 in a fixint and in 32 bits
+  pub five : SpellsInteger (pos 5) (0x05 ∷ [])
+  pub five_in_16_bits : SpellsInteger (pos 5) (0xcd ∷ 0x00 ∷ 0x05 ∷ [])
+  pub five_signed : SpellsInteger (pos 5) (0xd0 ∷ 0x05 ∷ [])
+  pub minus_five : SpellsInteger (negsuc 4) (0xfb ∷ [])
+  pub minus_five_in_32_bits : SpellsInteger (negsuc 4) (0xd2 ∷ 0xff ∷ 0xff ∷ 0xff ∷ 0xfb ∷ [])
+  -- the greatest and the least number of a form
+  pub most_of_fixint : SpellsInteger (pos 127) (0x7f ∷ [])
+  pub least_of_fixint : SpellsInteger (negsuc 31) (0xe0 ∷ [])
+  pub most_of_8_bits : SpellsInteger (pos 255) (0xcc ∷ 0xff ∷ [])
+  pub least_of_64_bits : SpellsInteger (negsuc 9223372036854775807) (0xd3 ∷ 0x80 ∷ 0x00 ∷ 0x00 ∷ 0x00 ∷ 0x00 ∷ 0x00 ∷ 0x00 ∷ 0x00 ∷ [])
+  pub least_of_16_bits : SpellsInteger (negsuc 32767) (0xd1 ∷ 0x80 ∷ 0x00 ∷ [])
+  pub some_integer : IsInteger (0xd0 ∷ 0x05 ∷ [])
+  -- one below 2^64, 2^64, -2^63, and one below that
+  pub most : IsSpellable (pos 18446744073709551615)
+  pub above : IsSpellable (pos 18446744073709551616) → ⊥
+  pub least : IsSpellable (negsuc 9223372036854775807)
+  pub below : IsSpellable (negsuc 9223372036854775808) → ⊥
+  pub bytes : IsBytes (0 ∷ 255 ∷ [])
+  pub no_bytes : IsBytes (0 ∷ 256 ∷ []) → ⊥
+
+pub record WorkedTexts : Type 0 where
+  -- the heads of texts of 0, 31, 32, 255, 256, 65,535 and 65,536 bytes, and of one less than 2^32
+  pub heads : map (λ n. text_head (shortest_text n) n) (0 ∷ 31 ∷ 32 ∷ 255 ∷ 256 ∷ 65535 ∷ 65536 ∷ 4294967295 ∷ [])
+      ≡ (0xa0 ∷ []) ∷ (0xbf ∷ []) ∷ (0xd9 ∷ 0x20 ∷ []) ∷ (0xd9 ∷ 0xff ∷ []) ∷ (0xda ∷ 0x01 ∷ 0x00 ∷ []) ∷ (0xda ∷ 0xff ∷ 0xff ∷ []) ∷ (0xdb ∷ 0x00 ∷ 0x01 ∷ 0x00 ∷ 0x00 ∷ []) ∷ (0xdb ∷ 0xff ∷ 0xff ∷ 0xff ∷ 0xff ∷ []) ∷ []
+  pub written : written_text (codes "ls") ≡ 0xa2 ∷ 0x6c ∷ 0x73 ∷ []
+  -- the length counts bytes: an e with an acute accent has two
+  pub counts_bytes : written_text (0xc3 ∷ 0xa9 ∷ []) ≡ 0xa2 ∷ 0xc3 ∷ 0xa9 ∷ []
+  -- "ls" in each width
+  pub short : SpellsText (codes "ls") (0xa2 ∷ 0x6c ∷ 0x73 ∷ [])
+  pub in_8_bits : SpellsText (codes "ls") (0xd9 ∷ 0x02 ∷ 0x6c ∷ 0x73 ∷ [])
+  pub in_16_bits : SpellsText (codes "ls") (0xda ∷ 0x00 ∷ 0x02 ∷ 0x6c ∷ 0x73 ∷ [])
+  pub in_32_bits : SpellsText (codes "ls") (0xdb ∷ 0x00 ∷ 0x00 ∷ 0x00 ∷ 0x02 ∷ 0x6c ∷ 0x73 ∷ [])
+  pub some_text : IsText (0xa2 ∷ 0x6c ∷ 0x73 ∷ [])
+
+pub record WorkedArrays : Type 0 where
+  -- the headers of 0, 15, 16, 65,535 and 65,536 items, and of one less than 2^32
+  pub headers : map written_array (0 ∷ 15 ∷ 16 ∷ 65535 ∷ 65536 ∷ 4294967295 ∷ [])
+      ≡ (0x90 ∷ []) ∷ (0x9f ∷ []) ∷ (0xdc ∷ 0x00 ∷ 0x10 ∷ []) ∷ (0xdc ∷ 0xff ∷ 0xff ∷ []) ∷ (0xdd ∷ 0x00 ∷ 0x01 ∷ 0x00 ∷ 0x00 ∷ []) ∷ (0xdd ∷ 0xff ∷ 0xff ∷ 0xff ∷ 0xff ∷ []) ∷ []
+  -- three items in each width
+  pub short : SpellsArray 3 (0x93 ∷ [])
+  pub in_16_bits : SpellsArray 3 (0xdc ∷ 0x00 ∷ 0x03 ∷ [])
+  pub in_32_bits : SpellsArray 3 (0xdd ∷ 0x00 ∷ 0x00 ∷ 0x00 ∷ 0x03 ∷ [])
+  pub some_array : IsArray (0xdc ∷ 0x00 ∷ 0x03 ∷ [])
+
+pub record WorkedNoItems : Type 0 where
+  -- these have other bytes: 2^7, -33, 2^8 and 2^16 without a sign, -1 without one, and 2^7 with one
+  pub fixint_passed : SpellsInteger (pos 128) (0x80 ∷ []) → ⊥
+  pub negative_fixint_passed : SpellsInteger (negsuc 32) (0xdf ∷ []) → ⊥
+  pub unsigned_passed : SpellsInteger (pos 256) (0xcc ∷ 0x00 ∷ []) → ⊥
+  pub unsigned_16_passed : SpellsInteger (pos 65536) (0xcd ∷ 0x00 ∷ 0x00 ∷ []) → ⊥
+  pub below_zero : SpellsInteger (negsuc 0) (0xcc ∷ 0xff ∷ []) → ⊥
+  pub signed_passed : SpellsInteger (pos 128) (0xd0 ∷ 0x80 ∷ []) → ⊥
+  -- nil, a number that is cut, and one with a byte behind it are no integer
+  pub nil : IsInteger (0xc0 ∷ []) → ⊥
+  pub cut_integer : IsInteger (0xcd ∷ 0x05 ∷ []) → ⊥
+  pub longer_integer : IsInteger (0x05 ∷ 0x00 ∷ []) → ⊥
+  -- half a character is no text, nor is a text that is cut, one with a byte behind it, or 32 bytes behind a0 + 32
+  pub not_utf8 : IsText (0xa1 ∷ 0xc3 ∷ []) → ⊥
+  pub cut_text : IsText (0xa2 ∷ 0x6c ∷ []) → ⊥
+  pub longer_text : IsText (0xa1 ∷ 0x6c ∷ 0x73 ∷ []) → ⊥
+  pub fixstr_passed : IsText (0xc0 ∷ replicate 32 0x6c) → ⊥
+  -- the head of a text, and a header that is cut, are no header
+  pub text : IsArray (0xa0 ∷ []) → ⊥
+  pub cut_array : IsArray (0xdc ∷ 0x03 ∷ []) → ⊥
+
+-- ---- frames
+
+pub record WorkedFrames : Type 0 where
+  pub framed : frame (0x91 ∷ 0x63 ∷ []) ≡ 0 ∷ 0 ∷ 0 ∷ 2 ∷ 0x91 ∷ 0x63 ∷ []
+  pub one_behind_the_other : frames ((7 ∷ []) ∷ [] ∷ (8 ∷ 9 ∷ []) ∷ []) ≡ 0 ∷ 0 ∷ 0 ∷ 1 ∷ 7 ∷ 0 ∷ 0 ∷ 0 ∷ 0 ∷ 0 ∷ 0 ∷ 0 ∷ 2 ∷ 8 ∷ 9 ∷ []
+  -- the first four bytes alone, the highest first
+  pub named : named_length (0 ∷ 0 ∷ 1 ∷ 2 ∷ 9 ∷ []) ≡ 258
+  -- an end within the length, within the payload, and none
+  pub within_length : NoWholeFrame (0 ∷ 0 ∷ 0 ∷ [])
+  pub within_payload : NoWholeFrame (0 ∷ 0 ∷ 0 ∷ 2 ∷ 7 ∷ [])
+  pub empty_payload : NoWholeFrame (0 ∷ 0 ∷ 0 ∷ 0 ∷ []) → ⊥
+  pub whole : NoWholeFrame (0 ∷ 0 ∷ 0 ∷ 1 ∷ 7 ∷ []) → ⊥
+  pub more_than_whole : NoWholeFrame (0 ∷ 0 ∷ 0 ∷ 1 ∷ 7 ∷ 0 ∷ []) → ⊥
+  -- a part of a frame: the first byte of a length, and a length of 1,048,576 alone; not nothing, nor a length above
+  pub one_byte : CutFrame (0xff ∷ [])
+  pub longest : CutFrame (0x00 ∷ 0x10 ∷ 0x00 ∷ 0x00 ∷ [])
+  pub no_part : CutFrame [] → ⊥
+  pub no_cut_above : CutFrame (0x00 ∷ 0x10 ∷ 0x00 ∷ 0x01 ∷ []) → ⊥
+  pub no_cut_of_whole : CutFrame (0 ∷ 0 ∷ 0 ∷ 1 ∷ 7 ∷ []) → ⊥
+  -- a length of 1,048,577 is too long, and needs all four bytes to be that
+  pub above : LongFrame (0x00 ∷ 0x10 ∷ 0x00 ∷ 0x01 ∷ [])
+  pub not_above : LongFrame (0x00 ∷ 0x10 ∷ 0x00 ∷ 0x00 ∷ []) → ⊥
+  pub three_bytes : LongFrame (0xff ∷ 0xff ∷ 0xff ∷ []) → ⊥
+
+pub record WorkedStreams : Type 0 where
+  pub nothing : StreamEnds [] [] whole_stream
+  pub one : StreamEnds (0 ∷ 0 ∷ 0 ∷ 1 ∷ 7 ∷ []) ((7 ∷ []) ∷ []) whole_stream
+  pub one_and_part : StreamEnds (0 ∷ 0 ∷ 0 ∷ 1 ∷ 7 ∷ 0 ∷ []) ((7 ∷ []) ∷ []) cut_stream
+  pub one_and_long : StreamEnds (0 ∷ 0 ∷ 0 ∷ 1 ∷ 7 ∷ 0x00 ∷ 0x10 ∷ 0x00 ∷ 0x01 ∷ []) ((7 ∷ []) ∷ []) long_stream
+  -- bytes behind the last frame, and a frame that is passed over
+  pub not_whole : StreamEnds (0 ∷ 0 ∷ 0 ∷ 1 ∷ 7 ∷ 0 ∷ []) ((7 ∷ []) ∷ []) whole_stream → ⊥
+  pub not_cut : StreamEnds (0 ∷ 0 ∷ 0 ∷ 1 ∷ 7 ∷ []) [] cut_stream → ⊥
+  -- a frame of 1,048,576 bytes is read, and one of 1,048,577 isn't
+  pub longest : (payload : List ℕ) → length payload ≡ 1048576 → StreamEnds (frame payload) (payload ∷ []) whole_stream
+  pub above : (payload : List ℕ) → length payload ≡ 1048577 → StreamEnds (frame payload) (payload ∷ []) whole_stream → ⊥
+  -- one frame at most, whatever stands behind it; two at most, where nothing does, or a part, or too long a frame
+  pub as_many : CutAfter 1 ((7 ∷ []) ∷ []) (0 ∷ 0 ∷ 0 ∷ 1 ∷ 8 ∷ [])
+  pub fewer : CutAfter 2 ((7 ∷ []) ∷ []) []
+  pub fewer_and_part : CutAfter 2 ((7 ∷ []) ∷ []) (0 ∷ [])
+  pub fewer_and_long : CutAfter 2 ((7 ∷ []) ∷ []) (0x00 ∷ 0x10 ∷ 0x00 ∷ 0x01 ∷ [])
+  -- a second frame that may be read isn't left, and more than the limit aren't read
+  pub one_left : CutAfter 2 ((7 ∷ []) ∷ []) (0 ∷ 0 ∷ 0 ∷ 1 ∷ 8 ∷ []) → ⊥
+  pub too_many : CutAfter 0 ((7 ∷ []) ∷ []) [] → ⊥
+  pub too_long : (payload : List ℕ) → length payload ≡ 1048577 → CutAfter 1 (payload ∷ []) [] → ⊥
+
+-- ---- ids
+
+-- 1,700,000,000 seconds since 1970, and the id that is made then from the random bytes 00 to 09
+abbrev pub first_time : ℕ
+first_time = 1700000000000000000
+
+abbrev pub first_id : ℕ
+first_id = 0x018bcfe5680070018203040506070809
+
+abbrev pub first_digits : List ℕ
+first_digits = codes "018bcfe5680070018203040506070809"
+
+abbrev pub ten_bytes : List ℕ
+ten_bytes = 0 ∷ 1 ∷ 2 ∷ 3 ∷ 4 ∷ 5 ∷ 6 ∷ 7 ∷ 8 ∷ 9 ∷ []
+
+pub record WorkedIds : Type 0 where
+  pub made : made_id first_time ten_bytes ≡ first_id
+  -- of random bytes that are all ones the version and the variant take six bits
+  pub of_ones : made_id first_time (replicate 10 0xff) ≡ 0x018bcfe568007fffbfffffffffffffff
+  -- the time is cut to whole milliseconds: 1,999,999 ns are one
+  pub early : made_id 1999999 (replicate 10 0) ≡ 0x00000000000170008000000000000000
+  pub printed : id_text first_id ≡ first_digits
+  -- small ids have 32 digits too, and the letters are small
+  pub ten : id_text 10 ≡ codes "0000000000000000000000000000000a"
+
+-- ---- calls
+
+-- "ls" in "/" of the session "s1" on the host "h:u", begun then
+abbrev pub ls : StartedRecord
+ls = record { id = first_id; timestamp = first_time; command = codes "ls"; cwd = codes "/"; session = codes "s1"; hostname = codes "h:u" }
+
+abbrev pub start_ls : PlainCall
+start_ls = start_call (codes "ls") (codes "/") (codes "s1") (codes "h:u")
+
+abbrev pub start_payload : List ℕ
+start_payload = 0x95 ∷ 0x01 ∷ 0xa2 ∷ 0x6c ∷ 0x73 ∷ 0xa1 ∷ 0x2f ∷ 0xa2 ∷ 0x73 ∷ 0x31 ∷ 0xa3 ∷ 0x68 ∷ 0x3a ∷ 0x75 ∷ []
+
+-- its end after 1,000 ns with status -1
+abbrev pub end_ls : PlainCall
+end_ls = end_call first_id (pos 1000) (negsuc 0)
+
+abbrev pub end_payload : List ℕ
+end_payload = 0x94 ∷ 0x02 ∷ 0xd9 ∷ 0x20 ∷ (first_digits ++ 0xcd ∷ 0x03 ∷ 0xe8 ∷ 0xff ∷ [])
+
+-- the first ten of all commands
+abbrev pub all_hits : SearchQuery
+all_hits = record { mode = by_prefix; text = []; offset = 0; limit = 10 }
+
+abbrev pub all_payload : List ℕ
+all_payload = 0x98 ∷ 0x04 ∷ 0x00 ∷ 0x00 ∷ 0xa0 ∷ 0xa0 ∷ 0x00 ∷ 0x00 ∷ 0x0a ∷ []
+
+-- the third of those with "l" in them
+abbrev pub third_hit : SearchQuery
+third_hit = record { mode = by_substring; text = codes "l"; offset = 2; limit = 1 }
+
+-- a thousand, behind as many as can be left out
+abbrev pub last_hits : SearchQuery
+last_hits = record { mode = by_prefix; text = []; offset = 4294967295; limit = 1000 }
+
+pub record WorkedCalls : Type 0 where
+  pub start : SpellsCall start_ls start_payload
+  -- the header in 16 bits, the number with a sign, and the command's length in a byte of its own
+  pub start_wide : SpellsCall start_ls (0xdc ∷ 0x00 ∷ 0x05 ∷ 0xd0 ∷ 0x01 ∷ 0xd9 ∷ 0x02 ∷ 0x6c ∷ 0x73 ∷ 0xa1 ∷ 0x2f ∷ 0xa2 ∷ 0x73 ∷ 0x31 ∷ 0xa3 ∷ 0x68 ∷ 0x3a ∷ 0x75 ∷ [])
+  pub end : SpellsCall end_ls end_payload
+  -- a duration of -2^63 and a status of one less than 2^63
+  pub end_far : SpellsCall (end_call first_id (negsuc 9223372036854775807) (pos 9223372036854775807))
+      (0x94 ∷ 0x02 ∷ 0xd9 ∷ 0x20 ∷ (first_digits ++ 0xd3 ∷ 0x80 ∷ 0x00 ∷ 0x00 ∷ 0x00 ∷ 0x00 ∷ 0x00 ∷ 0x00 ∷ 0x00 ∷ 0xcf ∷ 0x7f ∷ 0xff ∷ 0xff ∷ 0xff ∷ 0xff ∷ 0xff ∷ 0xff ∷ 0xff ∷ []))
+  pub search : SpellsCall (search_call all_hits) all_payload
+  pub search_third : SpellsCall (search_call third_hit) (0x98 ∷ 0x04 ∷ 0x01 ∷ 0x00 ∷ 0xa0 ∷ 0xa1 ∷ 0x6c ∷ 0x00 ∷ 0x02 ∷ 0x01 ∷ [])
+  pub search_last : SpellsCall (search_call last_hits) (0x98 ∷ 0x04 ∷ 0x00 ∷ 0x00 ∷ 0xa0 ∷ 0xa0 ∷ 0x00 ∷ 0xce ∷ 0xff ∷ 0xff ∷ 0xff ∷ 0xff ∷ 0xcd ∷ 0x03 ∷ 0xe8 ∷ [])
+  -- no payload spells an id of 129 bits
+  pub id_above : (payload : List ℕ) → SpellsCall (end_call 340282366920938463463374607431768211456 (pos 0) (pos 0)) payload → ⊥
+
+pub record WorkedFaults : Type 0 where
+  -- nothing, an array of no items, and one of nine
+  pub nothing : WrongAt plain_kinds [] 0
+  pub no_items : WrongAt plain_kinds (0x90 ∷ []) 0
+  pub nine_items : WrongAt plain_kinds (0x99 ∷ 0x01 ∷ []) 0
+  -- 99, 0 and 3 are no call's number, and that is found before a wrong length of the array; its place is behind the
+  -- whole header
+  pub great_number : WrongAt plain_kinds (0x91 ∷ 0x63 ∷ []) 1
+  pub number_0 : WrongAt plain_kinds (0x95 ∷ 0x00 ∷ []) 1
+  pub number_3 : WrongAt plain_kinds (0x92 ∷ 0x03 ∷ []) 1
+  pub behind_wide_header : WrongAt plain_kinds (0xdc ∷ 0x00 ∷ 0x05 ∷ 0x00 ∷ []) 3
+  -- an End without its arguments, and a Start with one too many: the array's length is wrong
+  pub no_arguments : WrongAt plain_kinds (0x91 ∷ 0x02 ∷ []) 0
+  pub more_arguments : WrongAt plain_kinds (0x96 ∷ 0x01 ∷ []) 0
+  -- a Start whose working directory is a number, and one whose command is cut
+  pub no_text : WrongAt plain_kinds (0x95 ∷ 0x01 ∷ 0xa2 ∷ 0x6c ∷ 0x73 ∷ 0x05 ∷ []) 5
+  pub cut : WrongAt plain_kinds (0x95 ∷ 0x01 ∷ 0xa2 ∷ 0x6c ∷ []) 2
+  -- an End whose id has a capital, one whose id has 31 digits, one whose duration is 2^63, and one whose status is a
+  -- text
+  pub capital : WrongAt plain_kinds (0x94 ∷ 0x02 ∷ 0xd9 ∷ 0x20 ∷ codes "018Bcfe5680070018203040506070809") 2
+  pub digits_31 : WrongAt plain_kinds (0x94 ∷ 0x02 ∷ 0xbf ∷ codes "018bcfe568007001820304050607080") 2
+  pub long_duration : WrongAt plain_kinds (0x94 ∷ 0x02 ∷ 0xd9 ∷ 0x20 ∷ (first_digits ++ 0xcf ∷ 0x80 ∷ 0x00 ∷ 0x00 ∷ 0x00 ∷ 0x00 ∷ 0x00 ∷ 0x00 ∷ 0x00 ∷ [])) 36
+  pub status_text : WrongAt plain_kinds (0x94 ∷ 0x02 ∷ 0xd9 ∷ 0x20 ∷ (first_digits ++ 0x00 ∷ 0xa0 ∷ [])) 37
+  -- a Search with the mode 2, the filter 1, a filter's text, unique hits, an offset of 2^32, one below 0, and a limit
+  -- of 0 and of 1,001
+  pub mode_2 : WrongAt plain_kinds (0x98 ∷ 0x04 ∷ 0x02 ∷ []) 2
+  pub filter_1 : WrongAt plain_kinds (0x98 ∷ 0x04 ∷ 0x00 ∷ 0x01 ∷ []) 3
+  pub filter_text : WrongAt plain_kinds (0x98 ∷ 0x04 ∷ 0x00 ∷ 0x00 ∷ 0xa1 ∷ 0x78 ∷ []) 4
+  pub unique : WrongAt plain_kinds (0x98 ∷ 0x04 ∷ 0x00 ∷ 0x00 ∷ 0xa0 ∷ 0xa0 ∷ 0x01 ∷ []) 6
+  pub offset_above : WrongAt plain_kinds (0x98 ∷ 0x04 ∷ 0x00 ∷ 0x00 ∷ 0xa0 ∷ 0xa0 ∷ 0x00 ∷ 0xcf ∷ 0x00 ∷ 0x00 ∷ 0x00 ∷ 0x01 ∷ 0x00 ∷ 0x00 ∷ 0x00 ∷ 0x00 ∷ 0x0a ∷ []) 7
+  pub offset_below : WrongAt plain_kinds (0x98 ∷ 0x04 ∷ 0x00 ∷ 0x00 ∷ 0xa0 ∷ 0xa0 ∷ 0x00 ∷ 0xff ∷ 0x0a ∷ []) 7
+  pub limit_0 : WrongAt plain_kinds (0x98 ∷ 0x04 ∷ 0x00 ∷ 0x00 ∷ 0xa0 ∷ 0xa0 ∷ 0x00 ∷ 0x00 ∷ 0x00 ∷ []) 8
+  pub limit_1001 : WrongAt plain_kinds (0x98 ∷ 0x04 ∷ 0x00 ∷ 0x00 ∷ 0xa0 ∷ 0xa0 ∷ 0x00 ∷ 0x00 ∷ 0xcd ∷ 0x03 ∷ 0xe9 ∷ []) 8
+  -- a byte behind a Start, which is then no call
+  pub behind : WrongAt plain_kinds (start_payload ++ 0x00 ∷ []) 14
+  pub no_call : (call : PlainCall) → SpellsCall call (start_payload ++ 0x00 ∷ []) → ⊥
+  -- an End is wrong nowhere
+  pub end_is_right : (place : ℕ) → WrongAt plain_kinds end_payload place → ⊥
+
+-- ---- journals
+
+abbrev pub ls_ended : HistoryRecord
+ls_ended = record { id = first_id; timestamp = first_time; duration = pos 1000; exit = negsuc 0; command = codes "ls"; cwd = codes "/"; session = codes "s1"; hostname = codes "h:u"; deleted_at = None }
+
+-- "pwd" with the id 7, begun at 20 ns
+abbrev pub pwd : StartedRecord
+pwd = record { id = 7; timestamp = 20; command = codes "pwd"; cwd = codes "/"; session = codes "s1"; hostname = codes "h:u" }
+
+abbrev pub pwd_ended : HistoryRecord
+pwd_ended = record { id = 7; timestamp = 20; duration = pos 3; exit = pos 0; command = codes "pwd"; cwd = codes "/"; session = codes "s1"; hostname = codes "h:u"; deleted_at = None }
+
+-- both were begun, and one has ended
+abbrev pub one_running : List JournalEntry
+one_running = begun ls ∷ begun pwd ∷ ended ls_ended ∷ []
+
+pub record WorkedJournals : Type 0 where
+  pub begun_ones : begun_in one_running ≡ ls ∷ pwd ∷ []
+  pub ended_ones : ended_in (ended pwd_ended ∷ begun ls ∷ ended ls_ended ∷ []) ≡ pwd_ended ∷ ls_ended ∷ []
+  pub kept : finished ls (pos 1000) (negsuc 0) ≡ ls_ended
+  pub ls_was_begun : was_begun first_id one_running ≡ true
+  pub pwd_was_begun : was_begun 7 one_running ≡ true
+  pub other_was_not : was_begun 8 one_running ≡ false
+  pub end_is_no_start : was_begun first_id (ended ls_ended ∷ []) ≡ false
+  pub ls_is_over : has_ended first_id one_running ≡ true
+  pub pwd_runs : has_ended 7 one_running ≡ false
+  -- an id twice, one behind the other or further on
+  pub own_ids : HaveOwnIds (λ (s : StartedRecord). s.id) (ls ∷ pwd ∷ [])
+  pub one_id_twice : HaveOwnIds (λ (s : StartedRecord). s.id) (ls ∷ pwd ∷ record pwd { id = first_id } ∷ []) → ⊥
+  pub sound : SoundJournal one_running
+  -- a command that is begun again, one that ends again, one that ends and was never begun, and ones that end as what
+  -- they weren't
+  pub begun_again : SoundJournal (begun ls ∷ ended ls_ended ∷ begun ls ∷ []) → ⊥
+  pub ended_again : SoundJournal (begun ls ∷ ended ls_ended ∷ ended ls_ended ∷ []) → ⊥
+  pub never_begun : SoundJournal (begun pwd ∷ ended ls_ended ∷ []) → ⊥
+  pub other_command : SoundJournal (begun ls ∷ ended (record ls_ended { command = codes "pwd" }) ∷ []) → ⊥
+  pub other_time : SoundJournal (begun ls ∷ ended (record ls_ended { timestamp = 20 }) ∷ []) → ⊥
+  -- the greatest id and time, and the next ones
+  pub fits : FitsJournal (begun (record ls { id = 340282366920938463463374607431768211455; timestamp = 18446744073709551615 }) ∷ [])
+  pub id_above : FitsJournal (begun pwd ∷ begun (record ls { id = 340282366920938463463374607431768211456 }) ∷ []) → ⊥
+  pub time_above : FitsJournal (begun (record ls { timestamp = 18446744073709551616 }) ∷ []) → ⊥
+
+-- ---- searches
+
+abbrev pub hit_at : (id timestamp : ℕ) (command : List ℕ) → HistoryRecord
+hit_at id timestamp command = record { id = id; timestamp = timestamp; duration = pos 0; exit = pos 0; command = command; cwd = codes "/"; session = codes "s1"; hostname = codes "h:u"; deleted_at = None }
+
+-- four commands as they ended
+abbrev pub four_ended : List HistoryRecord
+four_ended = hit_at 4 10 (codes "ls") ∷ hit_at 3 20 (codes "pwd") ∷ hit_at 2 30 (codes "LS -l") ∷ hit_at 1 30 (codes "ls -a") ∷ []
+
+pub record WorkedMatches : Type 0 where
+  -- a query without capitals is compared with the command's letters folded, and one with a capital exactly
+  pub folded : compared (codes "ls") (codes "LS -L") ≡ codes "ls -l"
+  pub exact : compared (codes "Ls") (codes "LS -L") ≡ codes "LS -L"
+  pub prefix : matches_by by_prefix (codes "ls") (codes "LS -l") ≡ true
+  pub capital : matches_by by_prefix (codes "L") (codes "ls") ≡ false
+  pub not_at_front : matches_by by_prefix (codes "s") (codes "ls") ≡ false
+  pub within : matches_by by_substring (codes "s -") (codes "ls -l") ≡ true
+  pub at_end : matches_by by_substring (codes "-l") (codes "ls -l") ≡ true
+  pub apart : matches_by by_substring (codes "l-") (codes "ls -l") ≡ false
+  pub folded_within : matches_by by_substring (codes "s -l") (codes "LS -L") ≡ true
+  pub longer : matches_by by_substring (codes "lsl") (codes "ls") ≡ false
+  -- every command has the empty text, and the empty one too
+  pub nothing_asked : matches_by by_prefix [] (codes "ls") ≡ true
+  pub of_nothing : matches_by by_substring [] [] ≡ true
+  -- of letters that aren't ASCII none is folded: e with an acute accent, small and capital
+  pub accent : matches_by by_prefix (0xc3 ∷ 0xa9 ∷ []) (0xc3 ∷ 0x89 ∷ []) ≡ false
+  -- the newer before the older, whatever their ids, and of one time the lesser id; none before itself
+  pub newer : is_shown_before (hit_at 9 20 []) (hit_at 1 10 []) ≡ true
+  pub older : is_shown_before (hit_at 1 10 []) (hit_at 9 20 []) ≡ false
+  pub lesser_id : is_shown_before (hit_at 1 10 []) (hit_at 9 10 []) ≡ true
+  pub greater_id : is_shown_before (hit_at 9 10 []) (hit_at 1 10 []) ≡ false
+  pub itself : is_shown_before (hit_at 1 10 []) (hit_at 1 10 []) ≡ false
+  -- "ls", "/", "s1" and "h:u"
+  pub bytes : hit_bytes ls_ended ≡ 8
+
+pub record WorkedSearches : Type 0 where
+  -- two of three where the limit is 2: not one, nor three
+  pub two : IsPage hit_bytes 2 (pwd_ended ∷ ls_ended ∷ pwd_ended ∷ []) (pwd_ended ∷ ls_ended ∷ [])
+  pub not_one : IsPage hit_bytes 2 (pwd_ended ∷ ls_ended ∷ pwd_ended ∷ []) (pwd_ended ∷ []) → ⊥
+  pub not_three : IsPage hit_bytes 2 (pwd_ended ∷ ls_ended ∷ pwd_ended ∷ []) (pwd_ended ∷ ls_ended ∷ pwd_ended ∷ []) → ⊥
+  pub not_the_last : IsPage hit_bytes 2 (pwd_ended ∷ ls_ended ∷ []) (ls_ended ∷ []) → ⊥
+  -- texts of 4,194,304 bytes together, and one more; a single hit of any size
+  pub just_fits : (h : HistoryRecord) → hit_bytes h ≡ 4194296 → FitsPage hit_bytes 10 (h ∷ ls_ended ∷ [])
+  pub too_heavy : (h : HistoryRecord) → hit_bytes h ≡ 4194297 → FitsPage hit_bytes 10 (h ∷ ls_ended ∷ []) → ⊥
+  pub single : (h : HistoryRecord) → hit_bytes h ≡ 9000000 → IsPage hit_bytes 10 (h ∷ ls_ended ∷ []) (h ∷ [])
+  pub none_allowed : FitsPage hit_bytes 0 (ls_ended ∷ []) → ⊥
+  -- those with "ls", newest first, and of one time the lesser id first; then without the first one, and then the first
+  -- one alone
+  pub answer : IsAnswer (record { mode = by_prefix; text = codes "ls"; offset = 0; limit = 10 }) four_ended (hit_at 1 30 (codes "ls -a") ∷ hit_at 2 30 (codes "LS -l") ∷ hit_at 4 10 (codes "ls") ∷ [])
+  pub without_first : IsAnswer (record { mode = by_prefix; text = codes "ls"; offset = 1; limit = 10 }) four_ended (hit_at 2 30 (codes "LS -l") ∷ hit_at 4 10 (codes "ls") ∷ [])
+  pub first_alone : IsAnswer (record { mode = by_prefix; text = codes "ls"; offset = 0; limit = 1 }) four_ended (hit_at 1 30 (codes "ls -a") ∷ [])
+  pub behind_the_last : IsAnswer (record { mode = by_prefix; text = codes "ls"; offset = 4; limit = 10 }) four_ended []
+
+-- ---- replies
+
+pub record WorkedReplies : Type 0 where
+  pub of_start : plain_reply_bytes (record { front = 1; answer = began_id first_id }) ≡ 0x93 ∷ 0x00 ∷ 0x01 ∷ 0xd9 ∷ 0x20 ∷ first_digits
+  pub of_end : plain_reply_bytes (record { front = 2; answer = stored_index 0 }) ≡ 0x93 ∷ 0x00 ∷ 0x02 ∷ 0x00 ∷ []
+  -- a front and an index that don't fit one byte
+  pub of_later_end : plain_reply_bytes (record { front = 300; answer = stored_index 128 }) ≡ 0x93 ∷ 0x00 ∷ 0xcd ∷ 0x01 ∷ 0x2c ∷ 0xcc ∷ 0x80 ∷ []
+  pub of_search : plain_reply_bytes (record { front = 2; answer = hit_list (ls_ended ∷ pwd_ended ∷ []) })
+      ≡ 0x93 ∷ 0x00 ∷ 0x02 ∷ 0x92 ∷ 0x98 ∷ 0xd9 ∷ 0x20 ∷ (first_digits ++ 0xcf ∷ 0x17 ∷ 0x97 ∷ 0x9c ∷ 0xfe ∷ 0x36 ∷ 0x2a ∷ 0x00 ∷ 0x00 ∷ 0xcd ∷ 0x03 ∷ 0xe8 ∷ 0xff ∷ 0xa2 ∷ 0x6c ∷ 0x73 ∷ 0xa1 ∷ 0x2f ∷ 0xa2 ∷ 0x73 ∷ 0x31 ∷ 0xa3 ∷ 0x68 ∷ 0x3a ∷ 0x75
+      ∷ 0x98 ∷ 0xd9 ∷ 0x20 ∷ (codes "00000000000000000000000000000007" ++ 0x14 ∷ 0x03 ∷ 0x00 ∷ 0xa3 ∷ 0x70 ∷ 0x77 ∷ 0x64 ∷ 0xa1 ∷ 0x2f ∷ 0xa2 ∷ 0x73 ∷ 0x31 ∷ 0xa3 ∷ 0x68 ∷ 0x3a ∷ 0x75 ∷ []))
+  pub of_no_hits : plain_reply_bytes (record { front = 0; answer = hit_list [] }) ≡ 0x93 ∷ 0x00 ∷ 0x00 ∷ 0x90 ∷ []
+  pub of_unknown_id : plain_reply_bytes (record { front = 3; answer = unknown_id first_id }) ≡ 0x93 ∷ 0x02 ∷ 0x03 ∷ 0xd9 ∷ 0x20 ∷ first_digits
+  pub of_random_fault : plain_reply_bytes (record { front = 3; answer = random_fault }) ≡ 0x92 ∷ 0x05 ∷ 0x03 ∷ []
+  pub of_taken_id : plain_reply_bytes (record { front = 3; answer = id_taken first_id }) ≡ 0x93 ∷ 0x06 ∷ 0x03 ∷ 0xd9 ∷ 0x20 ∷ first_digits
+  pub of_no_memory : plain_reply_bytes (record { front = 3; answer = no_memory }) ≡ 0x92 ∷ 0x08 ∷ 0x03 ∷ []
+  pub of_bad_request : plain_reply_bytes (record { front = 3; answer = bad_request 1 }) ≡ 0x93 ∷ 0x09 ∷ 0x03 ∷ 0x01 ∷ []
+  pub refusals : map is_plain_refusal (unknown_id 1 ∷ random_fault ∷ id_taken 1 ∷ no_memory ∷ bad_request 1 ∷ []) ≡ true ∷ true ∷ true ∷ true ∷ true ∷ []
+  pub no_refusals : map is_plain_refusal (began_id 1 ∷ stored_index 1 ∷ hit_list [] ∷ []) ≡ false ∷ false ∷ false ∷ []
+
+-- ---- steps and runs
+
+abbrev pub at_front : ℕ → PlainAnswer → PlainReply
+at_front front answer = record { front = front; answer = answer }
+
+abbrev pub used_by_start : Used
+used_by_start = record { readings = first_time ∷ []; drawn = ten_bytes; faults = 0 }
+
+abbrev pub used_by_end : Used
+used_by_end = record { readings = 5 ∷ []; drawn = []; faults = 0 }
+
+abbrev pub nothing_used : Used
+nothing_used = record { readings = []; drawn = []; faults = 0 }
+
+pub record WorkedSteps : Type 0 where
+  -- a Start at the empty journal, and the same at a journal with its id
+  pub begins : PlainStep [] start_payload used_by_start (at_front 1 (began_id first_id)) (begun ls ∷ [])
+  pub begins_again : PlainStep (begun ls ∷ []) start_payload used_by_start (at_front 1 (id_taken first_id)) (begun ls ∷ [])
+  pub begins_without_random : PlainStep (begun pwd ∷ []) start_payload (record { readings = first_time ∷ []; drawn = []; faults = 1 }) (at_front 1 random_fault) (begun pwd ∷ [])
+  pub begins_without_memory : PlainStep (begun pwd ∷ []) start_payload used_by_start (at_front 1 no_memory) (begun pwd ∷ [])
+  -- an End: the first and the second one that is stored, of a command that was never begun, and of one that has ended
+  pub ends : PlainStep (begun ls ∷ []) end_payload used_by_end (at_front 2 (stored_index 0)) (begun ls ∷ ended ls_ended ∷ [])
+  pub ends_second : PlainStep (begun pwd ∷ ended pwd_ended ∷ begun ls ∷ []) end_payload used_by_end (at_front 4 (stored_index 1)) (begun pwd ∷ ended pwd_ended ∷ begun ls ∷ ended ls_ended ∷ [])
+  pub ends_unbegun : PlainStep (begun pwd ∷ []) end_payload used_by_end (at_front 1 (unknown_id first_id)) (begun pwd ∷ [])
+  pub ends_again : PlainStep (begun ls ∷ ended ls_ended ∷ []) end_payload used_by_end (at_front 2 (unknown_id first_id)) (begun ls ∷ ended ls_ended ∷ [])
+  pub ends_without_memory : PlainStep (begun ls ∷ []) end_payload used_by_end (at_front 1 no_memory) (begun ls ∷ [])
+  -- a Search shows what has ended, and uses nothing
+  pub searches : PlainStep one_running all_payload nothing_used (at_front 3 (hit_list (ls_ended ∷ []))) one_running
+  pub searches_without_memory : PlainStep one_running all_payload nothing_used (at_front 3 no_memory) one_running
+  pub no_call : PlainStep (begun ls ∷ []) (0x91 ∷ 0x63 ∷ []) nothing_used (at_front 1 (bad_request 1)) (begun ls ∷ [])
+
+pub record WorkedWants : Type 0 where
+  -- want of memory is told only where the call would have been done: not of an id that is taken, never begun, or ended
+  pub of_taken : (new : List JournalEntry) → PlainStep (begun ls ∷ []) start_payload used_by_start (at_front 1 no_memory) new → ⊥
+  pub of_unbegun : (new : List JournalEntry) → PlainStep (begun pwd ∷ []) end_payload used_by_end (at_front 1 no_memory) new → ⊥
+  pub of_ended : (new : List JournalEntry) → PlainStep (begun ls ∷ ended ls_ended ∷ []) end_payload used_by_end (at_front 2 no_memory) new → ⊥
+  -- and with the same use of the outside as else: a Start and an End read the clock, and a Search uses nothing
+  pub start_unread : (new : List JournalEntry) → PlainStep [] start_payload nothing_used (at_front 0 no_memory) new → ⊥
+  pub end_unread : (new : List JournalEntry) → PlainStep (begun ls ∷ []) end_payload nothing_used (at_front 1 no_memory) new → ⊥
+  pub search_read : (new : List JournalEntry) → PlainStep [] all_payload used_by_end (at_front 0 no_memory) new → ⊥
+  -- the journal stays
+  pub stays : (new : List JournalEntry) → PlainStep [] all_payload nothing_used (at_front 0 no_memory) new → new ≡ []
+  -- a Start of nine bytes is answered in no way
+  pub nine_bytes : (reply : PlainReply) (new : List JournalEntry) → PlainStep [] start_payload (record { readings = first_time ∷ []; drawn = replicate 9 0; faults = 0 }) reply new → ⊥
+
+-- the command is begun, ended and searched for
+abbrev pub three_replies : List PlainReply
+three_replies = at_front 1 (began_id first_id) ∷ at_front 2 (stored_index 0) ∷ at_front 2 (hit_list (ls_ended ∷ [])) ∷ []
+
+abbrev pub used_by_three : Used
+used_by_three = record { readings = first_time ∷ 5 ∷ []; drawn = ten_bytes; faults = 0 }
+
+pub record WorkedRuns : Type 0 where
+  pub nothing : Run (begun ls ∷ []) [] nothing_used [] (begun ls ∷ [])
+  pub three : Run [] (start_payload ∷ end_payload ∷ all_payload ∷ []) used_by_three three_replies (begun ls ∷ ended ls_ended ∷ [])
+  pub split : IsSplitRun [] (start_payload ∷ []) (end_payload ∷ all_payload ∷ []) used_by_three three_replies (begun ls ∷ ended ls_ended ∷ [])
+  -- a run of nothing uses nothing and leaves the journal, and no reply is missing or left over
+  pub nothing_is_used : (new : List JournalEntry) → Run [] [] used_by_end [] new → ⊥
+  pub journal_stays : (used : Used) → Run [] [] used [] (begun ls ∷ []) → ⊥
+  pub reply_missing : (used : Used) (new : List JournalEntry) → Run [] (all_payload ∷ []) used [] new → ⊥
+  pub reply_left : (used : Used) (reply : PlainReply) (new : List JournalEntry) → Run [] [] used (reply ∷ []) new → ⊥
+  -- first of the one and then of the other, and faults are added
+  pub together : then_used (record { readings = 1 ∷ []; drawn = 2 ∷ []; faults = 3 }) (record { readings = 4 ∷ []; drawn = 5 ∷ []; faults = 6 }) ≡ record { readings = 1 ∷ 4 ∷ []; drawn = 2 ∷ 5 ∷ []; faults = 9 }
+  pub fits : UsedFits (record { readings = 18446744073709551615 ∷ []; drawn = 255 ∷ []; faults = 0 })
+  pub time_above : UsedFits (record { readings = 18446744073709551616 ∷ []; drawn = []; faults = 0 }) → ⊥
+  pub no_byte : UsedFits (record { readings = []; drawn = 256 ∷ []; faults = 0 }) → ⊥
+  pub faults : random_faults (at_front 0 random_fault ∷ at_front 0 no_memory ∷ at_front 0 (began_id 1) ∷ at_front 0 (stored_index 1) ∷ at_front 0 (hit_list []) ∷ at_front 0 (unknown_id 1) ∷ at_front 0 (id_taken 1) ∷ at_front 0 (bad_request 1) ∷ at_front 0 random_fault ∷ []) ≡ 2

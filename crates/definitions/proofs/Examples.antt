@@ -1,5 +1,5 @@
 -- The examples, computed.
-use Rattle.std.proofs.Common.{◌≡◌, ℕ, zero, suc, ◌+◌, ◌-◌, ◌<◌, ◌≤◌, ltb, ℤ, pos, negsuc, Bool, true, false, List, [], ◌∷◌, ◌++◌, length, Option, Some, None, Result, Ok, Err, append-nil, refl, sym, ap, subst, ◌∙◌, arith, inl, inr}
+use Rattle.std.proofs.Common.{◌≡◌, ℕ, zero, suc, ◌+◌, ◌-◌, ◌<◌, ◌≤◌, ltb, ℤ, pos, negsuc, Bool, true, false, List, [], ◌∷◌, ◌++◌, map, length, Option, Some, None, Result, Ok, Err, append-nil, refl, sym, ap, subst, ◌∙◌, arith, inl, inr}
 use Rattle.std.specs.Prelude.{codes, replicate, FitsSigned}
 use Rattle.std.specs.Int.{w64}
 use Rattle.std.specs.Str.{IsUtf8, is_utf8, chars}
@@ -11,15 +11,15 @@ use Rattle.std.proofs.lemmas.List.Sorted.{IsPermutation-refl}
 use Rattle.std.proofs.lemmas.Option.{some_pair_parts}
 use Rattle.std.proofs.lemmas.Str.{IsUtf8-nil, IsUtf8-from_is_utf8}
 use Rattle.definitions.specs.Spelling.{IsBytes, positive_fixint, negative_fixint, uint_8, uint_16, uint_32, uint_64, int_8, int_16, int_32, int_64, integer_bytes, SpellsInteger, fixstr, str_8, str_16, str_32, SpellsText, fixarray, array_16, array_32}
-use Rattle.definitions.specs.Frames.{most_payload_bytes, frame, CutFrame, LongFrame}
+use Rattle.definitions.specs.Frames.{most_payload_bytes, frame, frames, CutFrame, LongFrame}
 use Rattle.definitions.specs.Ids.{id_text, made_id}
 use Rattle.definitions.specs.Calls.{Argument, SearchQuery, PlainCall, start_call, end_call, search_call, mode_number, call_number, arguments, a_text, any_text, start_kinds, end_kinds, plain_search_kinds, SpellsArguments, SpellsCall, plain_kinds, WrongAt}
 use Rattle.definitions.specs.Reading.{array_at, integer_at, text_head_at, text_at, argument_at, arguments_at, last_arguments_at, call_at}
 use Rattle.definitions.specs.Journal.{StartedRecord, HistoryRecord, JournalEntry, begun, ended, ended_in, was_begun, has_ended, finished, SoundJournal}
 use Rattle.definitions.specs.Search.{is_shown_before, hit_bytes, IsPage, FitsPage, IsAnswer}
-use Rattle.definitions.specs.Replies.{PlainAnswer, began_id, stored_index, hit_list, unknown_id, random_fault, id_taken, no_memory, bad_request, PlainReply}
+use Rattle.definitions.specs.Replies.{PlainAnswer, began_id, stored_index, hit_list, unknown_id, random_fault, id_taken, no_memory, bad_request, PlainReply, plain_reply_bytes}
 use Rattle.definitions.specs.Step.{Used, used_nothing, read_and_drew, read_clock, PlainRefuses, Answers, PlainStep, unread, start_failed, start_taken, start_done, start_short, end_unbegun, end_again, end_done, end_short, searched, search_short}
-use Rattle.definitions.specs.Examples.{WorkedIntegers, WorkedTexts, WorkedArrays, WorkedNoItems, WorkedFrames, WorkedStreams, WorkedIds, first_time, first_id, first_digits, ten_bytes, ls, start_ls, start_payload, end_ls, end_payload, all_hits, all_payload, third_hit, last_hits, WorkedCalls, WorkedFaults, ls_ended, pwd, pwd_ended, one_running, WorkedJournals, hit_at, WorkedMatches, WorkedSearches, WorkedReplies, at_front, used_by_start, used_by_end, nothing_used, WorkedSteps, WorkedWants, WorkedRuns}
+use Rattle.definitions.specs.Examples.{WorkedIntegers, WorkedTexts, WorkedArrays, WorkedNoItems, WorkedFrames, WorkedStreams, WorkedIds, first_time, first_id, first_digits, ten_bytes, ls, start_ls, start_payload, end_ls, end_payload, all_hits, all_payload, third_hit, last_hits, WorkedCalls, WorkedFaults, ls_ended, pwd, pwd_ended, one_running, WorkedJournals, hit_at, WorkedMatches, WorkedSearches, WorkedReplies, at_front, used_by_start, used_by_end, nothing_used, three_replies, WorkedSteps, WorkedWants, WorkedRuns}
 use Rattle.definitions.proofs.Among.{Among-from_place}
 use Rattle.definitions.proofs.Calls.{call_read, one_call, call_never_wrong}
 use Rattle.definitions.proofs.Numbered.{wrong_at}
@@ -346,7 +346,7 @@ search_spelled_so query text offset limit mode most least above t o l = record {
 } }
 
 end_spelled : SpellsCall end_ls end_payload
-end_spelled = end_spelled_so (pos 1000) (negsuc 0) (0xcd ∷ 0x03 ∷ 0xe8 ∷ []) (0xff ∷ []) (omega arith) (omega arith) (uint_16, omega arith, refl) (negative_fixint, omega arith, refl)
+end_spelled = end_spelled_so (pos 1000) (pos 0) (0xcd ∷ 0x03 ∷ 0xe8 ∷ []) (0x00 ∷ []) (omega arith) (omega arith) (uint_16, omega arith, refl) (positive_fixint, omega arith, refl)
 
 all_spelled : SpellsCall (search_call all_hits) all_payload
 all_spelled = search_spelled_so all_hits (0xa0 ∷ []) (0x00 ∷ []) (0x0a ∷ []) (omega arith) (omega arith) (omega arith) (omega arith) (short_text [] IsUtf8-nil (omega arith)) (small_number 0 (omega arith)) (small_number 10 (omega arith))
@@ -560,7 +560,7 @@ begins : PlainStep [] start_payload used_by_start (at_front 1 (began_id first_id
 begins = start_done (codes "ls") (codes "/") (codes "s1") (codes "h:u") first_time ten_bytes start_spelled refl refl refl (record { journal = refl; reply_is = refl })
 
 ends : PlainStep (begun ls ∷ []) end_payload used_by_end (at_front 2 (stored_index 0)) (begun ls ∷ ended ls_ended ∷ [])
-ends = end_done first_id (pos 1000) (negsuc 0) 5 ls end_spelled refl (0, omega arith, refl) refl refl (record { journal = refl; reply_is = refl })
+ends = end_done first_id (pos 1000) (pos 0) 5 ls end_spelled refl (0, omega arith, refl) refl refl (record { journal = refl; reply_is = refl })
 
 shows : (journal : List JournalEntry) → ended_in journal ≡ ls_ended ∷ [] → PlainStep journal all_payload nothing_used (at_front (length journal) (hit_list (ls_ended ∷ []))) journal
 shows journal one = searched all_hits (ls_ended ∷ []) all_spelled refl (subst (λ (hs : List HistoryRecord). IsAnswer all_hits hs (ls_ended ∷ [])) (sym one) shows_ls) (record { journal = refl; reply_is = refl })
@@ -575,10 +575,10 @@ steps = record {
   begins_without_random = start_failed (codes "ls") (codes "/") (codes "s1") (codes "h:u") first_time start_spelled refl (record { journal = refl; reply_is = refl });
   begins_without_memory = start_short (codes "ls") (codes "/") (codes "s1") (codes "h:u") first_time ten_bytes start_spelled refl refl refl (record { journal = refl; reply_is = refl });
   ends = ends;
-  ends_second = end_done first_id (pos 1000) (negsuc 0) 5 ls end_spelled refl (1, omega arith, refl) refl refl (record { journal = refl; reply_is = refl });
-  ends_unbegun = end_unbegun first_id (pos 1000) (negsuc 0) 5 end_spelled refl refl (record { journal = refl; reply_is = refl });
-  ends_again = end_again first_id (pos 1000) (negsuc 0) 5 end_spelled refl refl (record { journal = refl; reply_is = refl });
-  ends_without_memory = end_short first_id (pos 1000) (negsuc 0) 5 end_spelled refl refl refl (record { journal = refl; reply_is = refl });
+  ends_second = end_done first_id (pos 1000) (pos 0) 5 ls end_spelled refl (1, omega arith, refl) refl refl (record { journal = refl; reply_is = refl });
+  ends_unbegun = end_unbegun first_id (pos 1000) (pos 0) 5 end_spelled refl refl (record { journal = refl; reply_is = refl });
+  ends_again = end_again first_id (pos 1000) (pos 0) 5 end_spelled refl refl (record { journal = refl; reply_is = refl });
+  ends_without_memory = end_short first_id (pos 1000) (pos 0) 5 end_spelled refl refl refl (record { journal = refl; reply_is = refl });
   searches = shows one_running refl;
   searches_without_memory = search_short all_hits all_spelled refl (record { journal = refl; reply_is = refl });
   no_call = unread 1 great_number refl (record { journal = refl; reply_is = refl });
@@ -676,8 +676,15 @@ wants = record {
   nine_bytes = nine_drawn;
 }
 
+three_written : frames (map plain_reply_bytes three_replies)
+    ≡ 0x00 ∷ 0x00 ∷ 0x00 ∷ 0x25 ∷ 0x93 ∷ 0x00 ∷ 0x01 ∷ 0xd9 ∷ 0x20 ∷ (first_digits ++ 0x00 ∷ 0x00 ∷ 0x00 ∷ 0x04 ∷ 0x93 ∷ 0x00 ∷ 0x02 ∷ 0x00 ∷ 0x00 ∷ 0x00 ∷ 0x00 ∷ 0x40 ∷ 0x93 ∷ 0x00 ∷ 0x02 ∷ 0x91 ∷ 0x98 ∷ 0xd9 ∷ 0x20
+    ∷ (first_digits ++ 0xcf ∷ 0x17 ∷ 0x97 ∷ 0x9c ∷ 0xfe ∷ 0x36 ∷ 0x2a ∷ 0x00 ∷ 0x00 ∷ 0xcd ∷ 0x03 ∷ 0xe8 ∷ 0x00 ∷ 0xa2 ∷ 0x6c ∷ 0x73 ∷ 0xa1 ∷ 0x2f ∷ 0xa2 ∷ 0x73 ∷ 0x31 ∷ 0xa3 ∷ 0x68 ∷ 0x3a ∷ 0x75 ∷ []))
+unfolding id_text
+three_written = refl
+
 pub runs : WorkedRuns
 runs = record {
+  written = three_written;
   nothing = (refl, refl);
   three = (used_by_start, _, begun ls ∷ [], refl, begins, (used_by_end, _, begun ls ∷ ended ls_ended ∷ [], refl, ends, (nothing_used, nothing_used, begun ls ∷ ended ls_ended ∷ [], refl, shows (begun ls ∷ ended ls_ended ∷ []) refl, (refl, refl))));
   split = record {

@@ -175,12 +175,12 @@ start_ls = start_call (codes "ls") (codes "/") (codes "s1") (codes "h:u")
 abbrev pub start_payload : List ℕ
 start_payload = 0x95 ∷ 0x01 ∷ 0xa2 ∷ 0x6c ∷ 0x73 ∷ 0xa1 ∷ 0x2f ∷ 0xa2 ∷ 0x73 ∷ 0x31 ∷ 0xa3 ∷ 0x68 ∷ 0x3a ∷ 0x75 ∷ []
 
--- its end after 1,000 ns with status -1
+-- its end after 1,000 ns with status 0
 abbrev pub end_ls : PlainCall
-end_ls = end_call first_id (pos 1000) (negsuc 0)
+end_ls = end_call first_id (pos 1000) (pos 0)
 
 abbrev pub end_payload : List ℕ
-end_payload = 0x94 ∷ 0x02 ∷ 0xd9 ∷ 0x20 ∷ (first_digits ++ 0xcd ∷ 0x03 ∷ 0xe8 ∷ 0xff ∷ [])
+end_payload = 0x94 ∷ 0x02 ∷ 0xd9 ∷ 0x20 ∷ (first_digits ++ 0xcd ∷ 0x03 ∷ 0xe8 ∷ 0x00 ∷ [])
 
 -- the first ten of all commands
 abbrev pub all_hits : SearchQuery
@@ -253,7 +253,7 @@ pub record WorkedFaults : Type 0 where
 -- ---- journals
 
 abbrev pub ls_ended : HistoryRecord
-ls_ended = record { id = first_id; timestamp = first_time; duration = pos 1000; exit = negsuc 0; command = codes "ls"; cwd = codes "/"; session = codes "s1"; hostname = codes "h:u"; deleted_at = None }
+ls_ended = record { id = first_id; timestamp = first_time; duration = pos 1000; exit = pos 0; command = codes "ls"; cwd = codes "/"; session = codes "s1"; hostname = codes "h:u"; deleted_at = None }
 
 -- "pwd" with the id 7, begun at 20 ns
 abbrev pub pwd : StartedRecord
@@ -269,7 +269,7 @@ one_running = begun ls ∷ begun pwd ∷ ended ls_ended ∷ []
 pub record WorkedJournals : Type 0 where
   pub begun_ones : begun_in one_running ≡ ls ∷ pwd ∷ []
   pub ended_ones : ended_in (ended pwd_ended ∷ begun ls ∷ ended ls_ended ∷ []) ≡ pwd_ended ∷ ls_ended ∷ []
-  pub kept : finished ls (pos 1000) (negsuc 0) ≡ ls_ended
+  pub kept : finished ls (pos 1000) (pos 0) ≡ ls_ended
   pub ls_was_begun : was_begun first_id one_running ≡ true
   pub pwd_was_begun : was_begun 7 one_running ≡ true
   pub other_was_not : was_begun 8 one_running ≡ false
@@ -353,7 +353,7 @@ pub record WorkedReplies : Type 0 where
   -- a front and an index that don't fit one byte
   pub of_later_end : plain_reply_bytes (record { front = 300; answer = stored_index 128 }) ≡ 0x93 ∷ 0x00 ∷ 0xcd ∷ 0x01 ∷ 0x2c ∷ 0xcc ∷ 0x80 ∷ []
   pub of_search : plain_reply_bytes (record { front = 2; answer = hit_list (ls_ended ∷ pwd_ended ∷ []) })
-      ≡ 0x93 ∷ 0x00 ∷ 0x02 ∷ 0x92 ∷ 0x98 ∷ 0xd9 ∷ 0x20 ∷ (first_digits ++ 0xcf ∷ 0x17 ∷ 0x97 ∷ 0x9c ∷ 0xfe ∷ 0x36 ∷ 0x2a ∷ 0x00 ∷ 0x00 ∷ 0xcd ∷ 0x03 ∷ 0xe8 ∷ 0xff ∷ 0xa2 ∷ 0x6c ∷ 0x73 ∷ 0xa1 ∷ 0x2f ∷ 0xa2 ∷ 0x73 ∷ 0x31 ∷ 0xa3 ∷ 0x68 ∷ 0x3a ∷ 0x75
+      ≡ 0x93 ∷ 0x00 ∷ 0x02 ∷ 0x92 ∷ 0x98 ∷ 0xd9 ∷ 0x20 ∷ (first_digits ++ 0xcf ∷ 0x17 ∷ 0x97 ∷ 0x9c ∷ 0xfe ∷ 0x36 ∷ 0x2a ∷ 0x00 ∷ 0x00 ∷ 0xcd ∷ 0x03 ∷ 0xe8 ∷ 0x00 ∷ 0xa2 ∷ 0x6c ∷ 0x73 ∷ 0xa1 ∷ 0x2f ∷ 0xa2 ∷ 0x73 ∷ 0x31 ∷ 0xa3 ∷ 0x68 ∷ 0x3a ∷ 0x75
       ∷ 0x98 ∷ 0xd9 ∷ 0x20 ∷ (codes "00000000000000000000000000000007" ++ 0x14 ∷ 0x03 ∷ 0x00 ∷ 0xa3 ∷ 0x70 ∷ 0x77 ∷ 0x64 ∷ 0xa1 ∷ 0x2f ∷ 0xa2 ∷ 0x73 ∷ 0x31 ∷ 0xa3 ∷ 0x68 ∷ 0x3a ∷ 0x75 ∷ []))
   pub of_no_hits : plain_reply_bytes (record { front = 0; answer = hit_list [] }) ≡ 0x93 ∷ 0x00 ∷ 0x00 ∷ 0x90 ∷ []
   pub of_unknown_id : plain_reply_bytes (record { front = 3; answer = unknown_id first_id }) ≡ 0x93 ∷ 0x02 ∷ 0x03 ∷ 0xd9 ∷ 0x20 ∷ first_digits
@@ -419,6 +419,10 @@ used_by_three = record { readings = first_time ∷ 5 ∷ []; drawn = ten_bytes; 
 pub record WorkedRuns : Type 0 where
   pub nothing : Run (begun ls ∷ []) [] nothing_used [] (begun ls ∷ [])
   pub three : Run [] (start_payload ∷ end_payload ∷ all_payload ∷ []) used_by_three three_replies (begun ls ∷ ended ls_ended ∷ [])
+  -- the frames of the three replies
+  pub written : frames (map plain_reply_bytes three_replies)
+      ≡ 0x00 ∷ 0x00 ∷ 0x00 ∷ 0x25 ∷ 0x93 ∷ 0x00 ∷ 0x01 ∷ 0xd9 ∷ 0x20 ∷ (first_digits ++ 0x00 ∷ 0x00 ∷ 0x00 ∷ 0x04 ∷ 0x93 ∷ 0x00 ∷ 0x02 ∷ 0x00 ∷ 0x00 ∷ 0x00 ∷ 0x00 ∷ 0x40 ∷ 0x93 ∷ 0x00 ∷ 0x02 ∷ 0x91 ∷ 0x98 ∷ 0xd9 ∷ 0x20
+      ∷ (first_digits ++ 0xcf ∷ 0x17 ∷ 0x97 ∷ 0x9c ∷ 0xfe ∷ 0x36 ∷ 0x2a ∷ 0x00 ∷ 0x00 ∷ 0xcd ∷ 0x03 ∷ 0xe8 ∷ 0x00 ∷ 0xa2 ∷ 0x6c ∷ 0x73 ∷ 0xa1 ∷ 0x2f ∷ 0xa2 ∷ 0x73 ∷ 0x31 ∷ 0xa3 ∷ 0x68 ∷ 0x3a ∷ 0x75 ∷ []))
   pub split : IsSplitRun [] (start_payload ∷ []) (end_payload ∷ all_payload ∷ []) used_by_three three_replies (begun ls ∷ ended ls_ended ∷ [])
   -- a run of nothing uses nothing and leaves the journal, and no reply is missing or left over
   pub nothing_is_used : (new : List JournalEntry) → Run [] [] used_by_end [] new → ⊥

@@ -21,7 +21,7 @@ limit_by entries weight places added_weight added_places = option_or (cond (nat_
 
 pub totals : WorkedTotals
 totals = record {
-  record_of_row = refl;
+  sealed_command = refl;
   with_host_name = refl;
   of_owner_0 = refl;
   of_owner_5 = refl;
@@ -121,6 +121,7 @@ unsound = record {
   begun_at_once = λ sound. sound.started_apart 0 1 (started_ls 7) (started_ls 7) (omega arith) refl refl refl;
   begun_twice = λ sound. sound.started_apart 0 2 (started_ls 7) (started_ls 7) (omega arith) refl refl refl;
   long_tag = λ sound. let fit : RecordFits (placed_record 2 (replicate 257 0) 0 1) = sound.events_fit 0 (Taken 5 (placed_record 2 (replicate 257 0) 0 1)) (omega arith) in let h : 257 ≤ 256 = fit.tag in omega arith;
+  too_many = λ journal many sound. let few = (sound.held_fits 5).entries in omega (arith, many, few);
 }
 
 -- a record that was taken in may follow where it is next, fits, and its owner has room

@@ -39,7 +39,7 @@ local_entry closes idx id = entry_of (Local closes (placed_record 1 (codes "hist
 
 pub record WorkedTotals : Type 0 where
   -- a record with no host name, a version of 2, a tag of 7, a sealed text of 231 and a wrapped one of 216 bytes
-  pub record_of_row : record_weight (record { id = 1; idx = 0; host = 1; host_name = []; timestamp = 0; version = codes "v0"; tag = codes "history"; sealed = replicate 231 0; wrapped = replicate 216 0 }) ≡ 584
+  pub sealed_command : record_weight (record { id = 1; idx = 0; host = 1; host_name = []; timestamp = 0; version = codes "v0"; tag = codes "history"; sealed = replicate 231 0; wrapped = replicate 216 0 }) ≡ 584
   -- the same with a host name of 5 bytes
   pub with_host_name : record_weight (record { id = 1; idx = 0; host = 1; host_name = codes "name1"; timestamp = 0; version = codes "v0"; tag = codes "history"; sealed = replicate 231 0; wrapped = replicate 216 0 }) ≡ 589
   -- started commands count, and a place once
@@ -181,6 +181,8 @@ pub record WorkedUnsound : Type 0 where
   pub begun_twice : Sound (entry_of (Started (started_ls 7)) ∷ local_entry (Some 7) 0 11 ∷ entry_of (Started (started_ls 7)) ∷ []) 1 → ⊥
   -- a tag of 257 bytes
   pub long_tag : Sound (entry_of (Taken 5 (placed_record 2 (replicate 257 0) 0 1)) ∷ []) 1 → ⊥
+  -- an owner with an entry more than its limit
+  pub too_many : (journal : List Entry) → length (own_events journal 5) ≡ 4000001 → Sound journal 1 → ⊥
 
 -- ---- what is sound
 

@@ -193,7 +193,7 @@ pub fn worked_sound()
     ensures { WorkedSound }
 {}
 
-/// Small journals that are not sound, one for each condition.
+/// Journals that are not sound, for each condition one at least.
 pub fn worked_unsound()
     ensures { WorkedUnsound }
 {}

@@ -1,15 +1,17 @@
 -- The examples, computed.
-use Rattle.std.proofs.Common.{◌≡◌, ℕ, false, ◌||◌, cond, inl, inr, List, [], ◌∷◌, length, Option, Some, None, Result, Ok, Err, refl, sym, ◌∙◌, ap, subst, arith}
-use Rattle.std.specs.Prelude.{◌+◌, ◌<◌, ◌^◌, pos, nat_lt, codes, take, drop, sum_by}
+use Rattle.std.proofs.Common.{◌≡◌, ℕ, false, ◌||◌, cond, inl, inr, Bool, true, List, [], ◌∷◌, ◌++◌, length, Option, Some, None, Result, Ok, Err, refl, sym, ◌∙◌, ap, subst, arith}
+use Rattle.std.specs.Prelude.{◌+◌, ◌<◌, ◌≤◌, ◌^◌, pos, nat_lt, codes, take, drop, replicate, bytes_eq, sum_by}
 use Rattle.std.specs.Option.{option_or}
 use Rattle.std.proofs.lemmas.Bool.{eq-eqb, true≢false}
-use Rattle.std.proofs.lemmas.Option.{none-some}
+use Rattle.std.proofs.lemmas.Option.{none-some, same_Some}
+use Rattle.std.proofs.lemmas.List.{length-append, length-replicate}
+use Rattle.std.proofs.lemmas.Slice.Eq.{bytes_eq-Decides}
 use Rattle.definitions.specs.Journal.{HistoryRecord}
 use Rattle.std.specs.List.{Contains}
 use Rattle.definitions.specs.Step.{Used, used_nothing, read_clock, read_and_drew}
-use Rattle.payload_rules.specs.Payloads.{Payload, HistoryCreate, HistoryDelete, KvSet, AliasSet, history_tag, payload_version}
-use Rattle.record_rules.specs.Limits.{most_value_bytes, most_name_bytes, most_held_weight}
-use Rattle.record_rules.specs.Records.{SealedRecord, Entry, Local, event_weight}
+use Rattle.payload_rules.specs.Payloads.{Payload, HistoryCreate, HistoryDelete, KvSet, AliasSet, AliasDelete, tag_of, history_tag, payload_version}
+use Rattle.record_rules.specs.Limits.{most_value_bytes, most_name_bytes, most_page_weight, most_held_weight}
+use Rattle.record_rules.specs.Records.{SealedRecord, Entry, Local, record_weight, event_weight}
 use Rattle.record_rules.specs.Growth.{PageRefusal, PageGap}
 use Rattle.record_rules.specs.Journal.{ChainCount, chain, own_events, entries_passed, weight_passed, places_passed, fits, status}
 use Rattle.std.specs.declared.cmp.Ordering.TheVariants.{Less}
@@ -18,13 +20,14 @@ use Rattle.std.specs.Cmp.{IsTotalOrder}
 use Rattle.std.proofs.lemmas.Cmp.{then_total, on_total, nat_cmp_total}
 use Rattle.view_rules.specs.Views.{ShowsHistory, Dead, by_deletion, by_creation, ShowsKv, NamesAlias, ShowsAlias, origin_cmp, time_cmp}
 use Rattle.view_rules.proofs.Chains.{Has-from_Contains}
-use Rattle.step_rules.specs.Calls.{end_call, of_name, of_value, first_long}
+use Rattle.step_rules.specs.Calls.{end_call, of_name, of_value, first_long, most_call_bytes}
 use Rattle.step_rules.specs.Answers.{Refusal, unknown_id, id_taken, disk_fault, no_memory, Answer, began, stored, value_is, places, refused, Reply}
-use Rattle.step_rules.specs.Store.{KeyedStore, SealsWell}
+use Rattle.step_rules.specs.Store.{Head, KeyedStore, sealed_record, payload_text_bytes, SealsWell}
 use Rattle.step_rules.specs.Step.{Draft, start_draft, record_draft, Drafts, start_drafts, end_drafts, delete_drafts, kv_set_drafts, alias_set_drafts, alias_delete_drafts, Unknown, end_unknown, delete_unknown, alias_unknown, draft_passes, Ready, draws, Step, long_step, unknown_step, full_step, taken_step, append_step, read_step, shows_value, shows_no_value, shows_places}
 use Rattle.step_rules.specs.Turn.{is_refusal, UsedSome, used_clock, used_bytes, Turn, read_turn, short_read_turn, unsettled_turn, undrawn_turn, step_turn, uncommitted_turn, short_turn, short_settled_turn}
 use Rattle.step_rules.specs.PageTurns.{page_faulted, PageTurn, unsettled_page, taken_page, refused_page, uncommitted_page, short_page, short_settled_page}
-use Rattle.step_rules.specs.Examples.{end_id, end_head, end_record, end_settled, first_time, second_time, ten_bytes, first_id, call_of, ls_call, ls, ls_entry, ls_ended, end_entry, OfExample, one_made, second_taken, WorkedCommand, WorkedTexts, WorkedViews, WorkedDrafts, WorkedAsked, WorkedDoubt, WorkedPageTurns}
+use Rattle.step_rules.specs.Examples.{end_id, end_head, end_record, end_settled, first_time, second_time, ten_bytes, first_id, call_of, ls_call, ls, ls_entry, ls_ended, end_entry, OfExample, zeros_store, one_made, second_taken, WorkedStore, WorkedCommand, WorkedTexts, WorkedViews, WorkedDrafts, WorkedAsked, WorkedDoubt, WorkedPageTurns}
+use Rattle.step_rules.proofs.Following.{seal_bytes, tag_fits}
 
 ls_ready : (store : KeyedStore) (journal : List Entry) → draft_passes store journal (start_draft (codes "ls") (codes "/") (codes "s1") (codes "h:u")) ≡ None → Ready store journal ls_call (start_draft (codes "ls") (codes "/") (codes "s1") (codes "h:u"))
 ls_ready store journal room = record { short = refl; drafts = start_drafts _ _ _ _ refl refl; room = room }
@@ -39,6 +42,39 @@ ls_ends : (store : KeyedStore) (drawn : List ℕ) → OfExample store → length
 ls_ends store drawn of_example many =
     append_step second_time drawn (record_draft (Some first_id) (HistoryCreate ls_ended)) refl many
     (record { short = refl; drafts = end_drafts first_id (pos 1000) (pos 0) ls refl refl refl; room = end_room store of_example }) refl refl refl
+
+-- ---- a store of zeros
+
+zeros_weigh : (head : Head) (payload : Payload) (now : ℕ) (random : List ℕ) → head.tag ≡ tag_of payload → head.version ≡ payload_version → length random ≡ 96 → record_weight (sealed_record head now (zeros_store.seal head payload random)) ≡ zeros_store.weight_of payload
+zeros_weigh head payload now random tag_is version_is many =
+    let tag : length head.tag ≡ length (tag_of payload) = ap (λ (text : List ℕ). length text) tag_is in
+    let version : length head.version ≡ 2 = ap (λ (text : List ℕ). length text) version_is in
+    let zeros : List ℕ = replicate (127 + payload_text_bytes payload) 0 in
+    let many_zeros : length zeros ≡ 127 + payload_text_bytes payload = length-replicate (127 + payload_text_bytes payload) 0 in
+    let sealed : length (random ++ zeros) ≡ length random + length zeros = length-append random zeros in
+    omega (arith, tag, version, many_zeros, sealed, many)
+
+zeros_light : (payload : Payload) → payload_text_bytes payload ≤ most_call_bytes → zeros_store.weight_of payload ≤ most_page_weight
+zeros_light payload few = let tag = tag_fits payload in omega (arith, tag, few)
+
+-- a record that opens has the tag of history
+zeros_open : (payload : Payload) (tag : List ℕ) (same : Bool) → bytes_eq tag history_tag ≡ same → cond same (Some (HistoryCreate ls_ended)) None ≡ Some payload → tag ≡ tag_of payload
+zeros_open payload tag true same opened = (bytes_eq-Decides tag history_tag).0 same ∙ ap tag_of (same_Some (HistoryCreate ls_ended) payload opened)
+zeros_open payload tag false same opened = absurd (none-some payload opened)
+
+-- what a record says in the open that ends the empty name
+abbrev empty_end : Head
+empty_end = record { id = 0; idx = 0; version = payload_version; tag = tag_of (AliasDelete []); host = 1 }
+
+pub a_store : WorkedStore
+a_store = record {
+  seals_well = record { weighs = zeros_weigh; light = zeros_light };
+  of_example = record { host = refl; weight = refl };
+  opens_by_tag = λ r payload opened. zeros_open payload r.tag (bytes_eq r.tag history_tag) refl opened;
+  opens_end = λ drawn. refl;
+  tells_less = λ well. let told = well.weighs empty_end (AliasDelete []) 0 (replicate 96 0) refl refl refl in omega (arith, told);
+  too_heavy = λ well. let light = well.light (AliasDelete []) (omega arith) in omega (arith, light);
+}
 
 pub commands : WorkedCommand
 commands = record {
@@ -257,12 +293,12 @@ chain_told : (store : KeyedStore) (drawn : List ℕ) → OfExample store → sta
 chain_told store drawn of_example = ap (status_with store drawn) of_example.host
 
 -- both weigh 720 bytes, which leaves room
-both_weigh : (store : KeyedStore) (drawn : List ℕ) → SealsWell store → OfExample store → sum_by event_weight (own_events (ls_entry ∷ end_settled store drawn ∷ []) 0) ≡ 720
-both_weigh store drawn well of_example = ap (λ w. 136 + w) (well.weighs (end_head store drawn) (HistoryCreate ls_ended) second_time (drop 10 drawn) ∙ of_example.weight)
+both_weigh : (store : KeyedStore) (drawn : List ℕ) → SealsWell store → OfExample store → length drawn ≡ 106 → sum_by event_weight (own_events (ls_entry ∷ end_settled store drawn ∷ []) 0) ≡ 720
+both_weigh store drawn well of_example many = ap (λ w. 136 + w) (well.weighs (end_head store drawn) (HistoryCreate ls_ended) second_time (drop 10 drawn) refl refl (seal_bytes drawn many) ∙ of_example.weight)
 
-room_for_more : (store : KeyedStore) (drawn : List ℕ) → SealsWell store → OfExample store → draft_passes store (ls_entry ∷ end_settled store drawn ∷ []) (start_draft (codes "ls") (codes "/") (codes "s1") (codes "h:u")) ≡ None
-room_for_more store drawn well of_example =
-    let light : weight_passed (own_events (ls_entry ∷ end_settled store drawn ∷ []) 0) 136 ≡ None = ap (λ sum. cond (nat_lt most_held_weight (sum + 136)) (Some (record { what = 2; held = sum })) None) (both_weigh store drawn well of_example) in
+room_for_more : (store : KeyedStore) (drawn : List ℕ) → SealsWell store → OfExample store → length drawn ≡ 106 → draft_passes store (ls_entry ∷ end_settled store drawn ∷ []) (start_draft (codes "ls") (codes "/") (codes "s1") (codes "h:u")) ≡ None
+room_for_more store drawn well of_example many =
+    let light : weight_passed (own_events (ls_entry ∷ end_settled store drawn ∷ []) 0) 136 ≡ None = ap (λ sum. cond (nat_lt most_held_weight (sum + 136)) (Some (record { what = 2; held = sum })) None) (both_weigh store drawn well of_example many) in
     ap (λ o. option_or (entries_passed (own_events (ls_entry ∷ end_settled store drawn ∷ []) 0)) (option_or o (places_passed (own_events (ls_entry ∷ end_settled store drawn ∷ []) 0) None))) light
 
 pub doubt : WorkedDoubt
@@ -270,8 +306,8 @@ doubt = record {
   in_doubt = λ store drawn of_example many. uncommitted_turn (end_entry store drawn ∷ []) (end_entry store drawn ∷ []) (stored 0) refl refl (ls_ends store drawn of_example many) (inr refl) (record { journal_is = refl; doubt_is = refl; reply_is = refl });
   lost = λ store drawn of_example many. uncommitted_turn (end_entry store drawn ∷ []) [] (stored 0) refl refl (ls_ends store drawn of_example many) (inl refl) (record { journal_is = refl; doubt_is = refl; reply_is = refl });
   not_shown = λ store drawn. read_turn (places []) refl (shows_places refl refl) (record { journal_is = refl; doubt_is = refl; reply_is = refl });
-  is_settled = λ store drawn well of_example. step_turn (ls_entry ∷ end_settled store drawn ∷ []) (refused (id_taken first_id)) refl
-      (taken_step first_time ten_bytes (start_draft (codes "ls") (codes "/") (codes "s1") (codes "h:u")) refl refl (ls_ready store (ls_entry ∷ end_settled store drawn ∷ []) (room_for_more store drawn well of_example)) refl (record { stays = refl; answer_is = refl }))
+  is_settled = λ store drawn well of_example many. step_turn (ls_entry ∷ end_settled store drawn ∷ []) (refused (id_taken first_id)) refl
+      (taken_step first_time ten_bytes (start_draft (codes "ls") (codes "/") (codes "s1") (codes "h:u")) refl refl (ls_ready store (ls_entry ∷ end_settled store drawn ∷ []) (room_for_more store drawn well of_example many)) refl (record { stays = refl; answer_is = refl }))
       (record { journal_is = refl; doubt_is = refl; reply_is = refl });
   then_shown = λ store drawn of_example. read_turn (places (record { host = 1; tag = history_tag; count = 1 } ∷ [])) refl (shows_places refl (ap places (sym (chain_told store drawn of_example)))) (record { journal_is = refl; doubt_is = refl; reply_is = refl });
   stays_in_doubt = λ store drawn. unsettled_turn second_time refl (λ e. cc) refl (record { journal_is = refl; doubt_is = refl; reply_is = refl });

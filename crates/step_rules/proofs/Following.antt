@@ -1,7 +1,8 @@
 -- What a step appends may follow the journal.
 use Rattle.std.proofs.Common.{◌≡◌, ℕ, ◌+◌, ◌≤◌, true, false, cond, ◌⊎◌, inl, inr, List, [], ◌∷◌, length, Option, Some, None, refl, sym, ◌∙◌, ap, subst, arith}
-use Rattle.std.specs.Prelude.{nat_lt, ◌==◌, IsTrue, drop}
+use Rattle.std.specs.Prelude.{◌-◌, nat_lt, ◌==◌, IsTrue, drop}
 use Rattle.std.specs.List.{list_any}
+use Rattle.std.proofs.lemmas.List.{length-drop}
 use Rattle.std.proofs.lemmas.Option.{none-some, same_Some}
 use Rattle.std.proofs.lemmas.Bool.{true≢false, ltb-false, eqb-false, eqb-true}
 use Rattle.payload_rules.specs.Payloads.{Payload, HistoryCreate, HistoryDelete, KvSet, AliasSet, AliasDelete, tag_of, payload_version}
@@ -14,7 +15,7 @@ use Rattle.record_rules.proofs.Members.{Has, find_has}
 use Rattle.record_rules.proofs.Soundness.{local_not_started}
 use Rattle.step_rules.specs.Calls.{Call, start_call, LimitedText, LongText, of_name, of_value, first_long, long_text, call_bytes, most_call_bytes, CallFits}
 use Rattle.step_rules.specs.Store.{Head, KeyedStore, sealed_record, payload_text_bytes, SealsWell}
-use Rattle.step_rules.specs.Step.{Draft, start_draft, record_draft, running_with, Drafts, start_drafts, end_drafts, delete_drafts, kv_set_drafts, alias_set_drafts, alias_delete_drafts, draft_passes, drawn_id, next_head, draft_event, starts_id, is_taken}
+use Rattle.step_rules.specs.Step.{Draft, start_draft, record_draft, running_with, Drafts, start_drafts, end_drafts, delete_drafts, kv_set_drafts, alias_set_drafts, alias_delete_drafts, draft_passes, draws, drawn_id, next_head, draft_event, starts_id, is_taken}
 use Rattle.step_rules.proofs.Finding.{some_passes, none_passes, of_each}
 
 -- ---- texts
@@ -82,7 +83,7 @@ drafts_fit store journal host call draft asked sound short (kv_set_drafts namesp
 drafts_fit store journal host call draft asked sound short (alias_set_drafts name value call_is draft_is) = record_fits None _ draft_is (none_closes journal) (subst (λ n. n ≤ most_call_bytes) (ap call_bytes call_is) asked.texts)
 drafts_fit store journal host call draft asked sound short (alias_delete_drafts name call_is shown draft_is) = record_fits None _ draft_is (none_closes journal) (subst (λ n. n ≤ most_call_bytes) (ap call_bytes call_is) asked.texts)
 
-tag_fits : (payload : Payload) → length (tag_of payload) ≤ most_tag_bytes
+pub tag_fits : (payload : Payload) → length (tag_of payload) ≤ most_tag_bytes
 tag_fits (HistoryCreate h) = omega arith
 tag_fits (HistoryDelete id) = omega arith
 tag_fits (KvSet namespace key value) = omega arith
@@ -108,6 +109,10 @@ start_follows journal host new texts apart room = record {
   held_fits = room;
 }
 
+-- what is left of the bytes that a record draws, once its id is made
+pub seal_bytes : (drawn : List ℕ) → length drawn ≡ 106 → length (drop 10 drawn) ≡ 96
+seal_bytes drawn many = length-drop 10 drawn ∙ ap (λ n. n - 10) many
+
 module _ (store : KeyedStore) (journal : List Entry) (closes : Option ℕ) (payload : Payload) (head : Head) (now : ℕ) (random : List ℕ) where
   abbrev made : SealedRecord
   made = sealed_record head now (store.seal head payload random)
@@ -117,10 +122,10 @@ module _ (store : KeyedStore) (journal : List Entry) (closes : Option ℕ) (payl
   closes_some closed (Some id) r is = ap Some (eqb-true id closed is)
 
   record_follows : SealsWell store → head.tag ≡ tag_of payload → head.host ≡ store.host → head.version ≡ payload_version → head.idx ≡ length (chain journal 0 head.host head.tag)
-      → ((closed : ℕ) → closes ≡ Some closed → IsTrue (is_running closed (events_of journal))) → payload_text_bytes payload ≤ most_call_bytes
+      → ((closed : ℕ) → closes ≡ Some closed → IsTrue (is_running closed (events_of journal))) → length random ≡ 96 → payload_text_bytes payload ≤ most_call_bytes
       → fits journal 0 (store.weight_of payload) (Some (record { host = head.host; tag = head.tag })) ≡ None → MayFollow journal store.host (Local closes made)
-  record_follows well tag_is host_is version_is idx_is runs short room =
-      let heavy : record_weight made ≡ store.weight_of payload = well.weighs head payload now random in
+  record_follows well tag_is host_is version_is idx_is runs many short room =
+      let heavy : record_weight made ≡ store.weight_of payload = well.weighs head payload now random tag_is version_is many in
       let light : store.weight_of payload ≤ most_page_weight = well.light payload short in
       record {
         numbered = idx_is;
@@ -136,13 +141,13 @@ module _ (store : KeyedStore) (journal : List Entry) (closes : Option ℕ) (payl
         held_fits = ap (λ w. fits journal 0 w (Some (record { host = head.host; tag = head.tag }))) heavy ∙ room;
       }
 
-pub draft_follows : (store : KeyedStore) (journal : List Entry) (call : Call) (draft : Draft) (now : ℕ) (drawn : List ℕ) → SealsWell store → DraftFits journal draft → draft_passes store journal draft ≡ None → is_taken journal draft (drawn_id now drawn) ≡ false → MayFollow journal store.host (draft_event store journal draft now drawn)
-draft_follows store journal call draft now drawn well (start_fits command cwd session hostname draft_is short) room free =
+pub draft_follows : (store : KeyedStore) (journal : List Entry) (call : Call) (draft : Draft) (now : ℕ) (drawn : List ℕ) → SealsWell store → length drawn ≡ draws draft → DraftFits journal draft → draft_passes store journal draft ≡ None → is_taken journal draft (drawn_id now drawn) ≡ false → MayFollow journal store.host (draft_event store journal draft now drawn)
+draft_follows store journal call draft now drawn well many (start_fits command cwd session hostname draft_is short) room free =
     let room_there : draft_passes store journal (start_draft command cwd session hostname) ≡ None = sym (ap (draft_passes store journal) draft_is) ∙ room in
     let free_there : is_taken journal (start_draft command cwd session hostname) (drawn_id now drawn) ≡ false = sym (ap (λ d. is_taken journal d (drawn_id now drawn)) draft_is) ∙ free in
     subst (λ d. MayFollow journal store.host (draft_event store journal d now drawn)) (sym draft_is)
     (start_follows journal store.host (record { id = drawn_id now drawn; timestamp = now; command = command; cwd = cwd; session = session; hostname = hostname }) (started_fits (drawn_id now drawn) now command cwd session hostname short) free_there room_there)
-draft_follows store journal call draft now drawn well (record_fits closes payload draft_is runs short) room free =
+draft_follows store journal call draft now drawn well many (record_fits closes payload draft_is runs short) room free =
     let room_there : draft_passes store journal (record_draft closes payload) ≡ None = sym (ap (draft_passes store journal) draft_is) ∙ room in
     subst (λ d. MayFollow journal store.host (draft_event store journal d now drawn)) (sym draft_is)
-    (record_follows store journal closes payload (next_head store journal payload (drawn_id now drawn)) now (drop 10 drawn) well refl refl refl refl runs short room_there)
+    (record_follows store journal closes payload (next_head store journal payload (drawn_id now drawn)) now (drop 10 drawn) well refl refl refl refl runs (seal_bytes drawn (many ∙ ap draws draft_is)) short room_there)

@@ -20,8 +20,8 @@ Step-sound store journal caller call used after answer well asked sound (long_st
 Step-sound store journal caller call used after answer well asked sound (unknown_step _ _ _ _ r) = subst (λ j. Sound j store.host) (sym r.stays) sound
 Step-sound store journal caller call used after answer well asked sound (full_step _ _ _ _ _ _ _ r) = subst (λ j. Sound j store.host) (sym r.stays) sound
 Step-sound store journal caller call used after answer well asked sound (taken_step _ _ _ _ _ _ _ r) = subst (λ j. Sound j store.host) (sym r.stays) sound
-Step-sound store journal caller call used after answer well asked sound (append_step now drawn draft _ _ ready free after_is _) =
-    let follows = draft_follows store journal call draft now drawn well (drafts_fit store journal store.host call draft asked sound ready.short ready.drafts) ready.room free in
+Step-sound store journal caller call used after answer well asked sound (append_step now drawn draft _ many ready free after_is _) =
+    let follows = draft_follows store journal call draft now drawn well many (drafts_fit store journal store.host call draft asked sound ready.short ready.drafts) ready.room free in
     subst (λ j. Sound j store.host) (sym after_is) (Sound-push journal (record { caller = caller; event = draft_event store journal draft now drawn }) store.host sound follows)
 Step-sound store journal caller call used after answer well asked sound (read_step _ _ stays) = subst (λ j. Sound j store.host) (sym stays) sound
 

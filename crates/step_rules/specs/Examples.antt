@@ -1,14 +1,15 @@
 -- Worked examples: steps and turns of a small journal, with the numbers written out.
-use Rattle.std.specs.Prelude.{◌≡◌, ℕ, ◌-◌, ◌^◌, pos, negsuc, List, [], ◌∷◌, length, take, drop, codes, Some, None, false}
+use Rattle.std.specs.Prelude.{◌≡◌, ℕ, ◌-◌, ◌^◌, pos, negsuc, ◌+◌, List, [], ◌∷◌, ◌++◌, length, take, drop, replicate, bytes_eq, codes, Some, None, false, if◌then◌else◌}
 use Rattle.definitions.specs.Ids.{made_id}
 use Rattle.definitions.specs.Calls.{by_prefix}
 use Rattle.definitions.specs.Journal.{StartedRecord, HistoryRecord}
 use Rattle.definitions.specs.Step.{used_nothing, read_clock, read_and_drew, read_and_failed}
-use Rattle.payload_rules.specs.Payloads.{HistoryCreate, HistoryDelete, KvSet, AliasSet, AliasDelete, history_tag}
+use Rattle.payload_rules.specs.Payloads.{HistoryCreate, HistoryDelete, KvSet, AliasSet, AliasDelete, tag_of, history_tag}
 use Rattle.record_rules.specs.Records.{SealedRecord, Caller, Entry, Started, Local, Taken}
 use Rattle.record_rules.specs.Journal.{fits}
 use Rattle.record_rules.specs.Growth.{PageGap}
 use Rattle.record_rules.specs.Examples.{kv_record, placed_record}
+use Rattle.view_rules.specs.Views.{OpensByTag}
 use Rattle.view_rules.specs.Answers.{Scope, of_all, of_hostname, of_session, of_cwd}
 use Rattle.step_rules.specs.Calls.{Call, start_call, end_call, delete_call, search_call, kv_set_call, kv_get_call, kv_list_call, alias_set_call, alias_delete_call, alias_list_call, status_call, long_text, call_bytes, CallFits}
 use Rattle.step_rules.specs.Answers.{too_long, unknown_id, unknown_name, full, random_fault, id_taken, disk_fault, no_memory, began, stored, value_is, places, refused}
@@ -75,6 +76,26 @@ end_settled store drawn = record { caller = record { number = 0; call = 2; settl
 pub record OfExample (store : KeyedStore) : Type 0 where
   pub host : store.host ≡ 1
   pub weight : store.weight_of (HistoryCreate ls_ended) ≡ 584
+
+-- A store of that kind: a payload is sealed to its random bytes and to zeros, one for each byte of its texts and 127 more. Each record
+-- of the history opens as the command that ended.
+abbrev pub zeros_store : KeyedStore
+zeros_store = record {
+  host = 1;
+  seal = λ head payload random. record { sealed = random ++ replicate (127 + payload_text_bytes payload) 0; wrapped = replicate 216 0 };
+  weight_of = λ payload. 569 + length (tag_of payload) + payload_text_bytes payload;
+  opens = λ r. if bytes_eq r.tag history_tag then Some (HistoryCreate ls_ended) else None;
+}
+
+-- what is asked of a store can be met, all of it by one
+pub record WorkedStore : Type 0 where
+  pub seals_well : SealsWell zeros_store
+  pub of_example : OfExample zeros_store
+  pub opens_by_tag : OpensByTag zeros_store.opens
+  pub opens_end : (drawn : List ℕ) → zeros_store.opens (end_record zeros_store drawn) ≡ Some (HistoryCreate ls_ended)
+  -- a store whose records weigh more than it tells, or more than a record may, doesn't seal so
+  pub tells_less : SealsWell (record zeros_store { weight_of = λ payload. 568 + length (tag_of payload) + payload_text_bytes payload }) → ⊥
+  pub too_heavy : SealsWell (record zeros_store { weight_of = λ payload. 4194305 }) → ⊥
 
 pub record WorkedCommand : Type 0 where
   pub starts : (store : KeyedStore) → Step store [] (call_of 1) ls_call (read_and_drew first_time ten_bytes) (ls_entry ∷ []) (began first_id)
@@ -194,7 +215,7 @@ pub record WorkedDoubt : Type 0 where
   -- what is in doubt isn't shown
   pub not_shown : (store : KeyedStore) (drawn : List ℕ) → Turn store (ls_entry ∷ []) (end_entry store drawn ∷ []) (call_of 3) status_call used_nothing (ls_entry ∷ []) (end_entry store drawn ∷ []) (record { front = 1; answer = places [] })
   -- the next call that writes settles it, even where it is refused itself, and is answered behind it
-  pub is_settled : (store : KeyedStore) (drawn : List ℕ) → SealsWell store → OfExample store → Turn store (ls_entry ∷ []) (end_entry store drawn ∷ []) (call_of 3) ls_call (read_and_drew first_time ten_bytes) (ls_entry ∷ end_settled store drawn ∷ []) [] (record { front = 2; answer = refused (id_taken first_id) })
+  pub is_settled : (store : KeyedStore) (drawn : List ℕ) → SealsWell store → OfExample store → length drawn ≡ 106 → Turn store (ls_entry ∷ []) (end_entry store drawn ∷ []) (call_of 3) ls_call (read_and_drew first_time ten_bytes) (ls_entry ∷ end_settled store drawn ∷ []) [] (record { front = 2; answer = refused (id_taken first_id) })
   pub then_shown : (store : KeyedStore) (drawn : List ℕ) → OfExample store → Turn store (ls_entry ∷ end_settled store drawn ∷ []) [] (call_of 4) status_call used_nothing (ls_entry ∷ end_settled store drawn ∷ []) [] (record { front = 2; answer = places (record { host = 1; tag = history_tag; count = 1 } ∷ []) })
   -- settling may fail itself, and so may the draw
   pub stays_in_doubt : (store : KeyedStore) (drawn : List ℕ) → Turn store (ls_entry ∷ []) (end_entry store drawn ∷ []) (call_of 3) ls_call (read_clock second_time) (ls_entry ∷ []) (end_entry store drawn ∷ []) (record { front = 1; answer = refused disk_fault })

@@ -1,7 +1,7 @@
 -- What a store has beside its journal: its host, and what its key seals and opens. How it seals is not said here.
 use Rattle.std.specs.Prelude.{◌≡◌, ℕ, ◌+◌, ◌≤◌, List, [], length}
 use Rattle.definitions.specs.Journal.{HistoryRecord}
-use Rattle.payload_rules.specs.Payloads.{Payload, HistoryCreate, HistoryDelete, KvSet, AliasSet, AliasDelete}
+use Rattle.payload_rules.specs.Payloads.{Payload, HistoryCreate, HistoryDelete, KvSet, AliasSet, AliasDelete, tag_of, payload_version}
 use Rattle.record_rules.specs.Limits.{most_page_weight}
 use Rattle.record_rules.specs.Records.{SealedRecord, Entry, record_weight}
 use Rattle.view_rules.specs.Views.{Opening, viewed, ShowsHistory, ShowsKv, ShowsAlias}
@@ -56,8 +56,9 @@ HasValue store journal namespace key = (value : List ℕ) × ShowsKv store.opens
 abbrev pub HasAlias : KeyedStore → List Entry → (name : List ℕ) → Type 0
 HasAlias store journal name = (value : List ℕ) × ShowsAlias store.opens (viewed journal) name value
 
--- A record's weight is that of its payload, whatever its head, time and random bytes. With the texts of one call it is no heavier
--- than a record may be.
+-- A record of the payload's tag and of the one version weighs what its payload tells, whatever its id, idx, host, time and 96
+-- random bytes. With the texts of one call it is no heavier than a record may be.
 pub record SealsWell (store : KeyedStore) : Type 0 where
-  pub weighs : (head : Head) (payload : Payload) (now : ℕ) (random : List ℕ) → record_weight (sealed_record head now (store.seal head payload random)) ≡ store.weight_of payload
+  pub weighs : (head : Head) (payload : Payload) (now : ℕ) (random : List ℕ) → head.tag ≡ tag_of payload → head.version ≡ payload_version → length random ≡ 96
+      → record_weight (sealed_record head now (store.seal head payload random)) ≡ store.weight_of payload
   pub light : (payload : Payload) → payload_text_bytes payload ≤ most_call_bytes → store.weight_of payload ≤ most_page_weight

@@ -9,7 +9,7 @@
 #![tactic(auto)]
 
 ghost use Rattle.step_rules.specs.Laws.{StepKeepsSound, StepNumbersChains, StepAddsOne, RefusalLeaves, ReadLeaves, StepHasOutcome, WriteHasOneOutcome, StepHasOneOutcome, TurnKeepsSound, TurnTellsFront, TurnOnlyAdds, PageTurnKeepsSound, PageTurnOnlyAdds};
-ghost use Rattle.step_rules.specs.Examples.{WorkedCommand, WorkedTexts, WorkedViews, WorkedDrafts, WorkedAsked, WorkedDoubt, WorkedPageTurns};
+ghost use Rattle.step_rules.specs.Examples.{WorkedStore, WorkedCommand, WorkedTexts, WorkedViews, WorkedDrafts, WorkedAsked, WorkedDoubt, WorkedPageTurns};
 
 /// A step from a sound journal leaves a sound journal.
 pub fn step_keeps_sound()
@@ -77,6 +77,11 @@ pub fn page_turn_keeps_sound()
 /// A turn with a page keeps the journal as the front of what it leaves.
 pub fn page_turn_only_adds()
     ensures { PageTurnOnlyAdds }
+{}
+
+/// What is asked of a store can be met, by one that seals to zeros.
+pub fn worked_store()
+    ensures { WorkedStore }
 {}
 
 /// A command, worked out: its start and its end, the same again, and an end of what never ran.

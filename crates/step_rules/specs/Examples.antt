@@ -16,7 +16,7 @@ use Rattle.step_rules.specs.Answers.{too_long, unknown_id, unknown_name, full, r
 use Rattle.step_rules.specs.Store.{Head, Seal, KeyedStore, payload_text_bytes, SealsWell}
 use Rattle.step_rules.specs.Step.{start_draft, record_draft, Drafts, draft_place, next_head, draft_answer, Step}
 use Rattle.step_rules.specs.Turn.{UsedSome, Turn}
-use Rattle.step_rules.specs.PageTurns.{took, page_refused, page_faulted, page_unheld, PageTurn}
+use Rattle.step_rules.specs.PageTurns.{took, page_refused, page_faulted, page_no_memory, PageTurn}
 
 -- ---- a command of host 1 that starts, and ends
 
@@ -260,7 +260,7 @@ pub record WorkedPageTurns : Type 0 where
   pub in_doubt : PageTurn (ls_entry ∷ []) (first_in_doubt ∷ []) (call_of 3) 5 two_records (ls_entry ∷ first_settled ∷ []) (second_taken ∷ []) page_faulted
   pub lost : PageTurn (ls_entry ∷ []) (first_in_doubt ∷ []) (call_of 3) 5 two_records (ls_entry ∷ first_settled ∷ []) [] page_faulted
   -- memory was wanting, before or after settling
-  pub short : PageTurn (ls_entry ∷ []) (first_in_doubt ∷ []) (call_of 3) 5 two_records (ls_entry ∷ []) (first_in_doubt ∷ []) page_unheld
-  pub short_settled : PageTurn (ls_entry ∷ []) (first_in_doubt ∷ []) (call_of 3) 5 two_records (ls_entry ∷ first_settled ∷ []) [] page_unheld
+  pub short : PageTurn (ls_entry ∷ []) (first_in_doubt ∷ []) (call_of 3) 5 two_records (ls_entry ∷ []) (first_in_doubt ∷ []) page_no_memory
+  pub short_settled : PageTurn (ls_entry ∷ []) (first_in_doubt ∷ []) (call_of 3) 5 two_records (ls_entry ∷ first_settled ∷ []) [] page_no_memory
   -- where nothing is in doubt and nothing is fresh, nothing is written that could fail
   pub no_fault : (after doubt_after : List Entry) → PageTurn [] [] (call_of 1) 5 [] after doubt_after page_faulted → ⊥

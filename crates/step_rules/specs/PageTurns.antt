@@ -9,7 +9,7 @@ pub data PageAnswer : Type 0 where
   took : (added : ℕ) → PageAnswer
   page_refused : PageRefusal → PageAnswer
   page_faulted : PageAnswer
-  page_unheld : PageAnswer
+  page_no_memory : PageAnswer
 
 -- these stand after the turn: the journal, and the commit in doubt
 pub record PageLeaves (journal doubt after doubt_after : List Entry) : Type 0 where
@@ -29,5 +29,5 @@ pub data PageTurn (journal doubt : List Entry) (caller : Caller) (owner : ℕ) (
   uncommitted_page : (batch left : List Entry) → grow (settled journal doubt) caller owner records ≡ Ok batch → batch ≢ [] → (left ≡ []) ⊎ (left ≡ batch) → PageLeaves (settled journal doubt) left after doubt_after
       → answer ≡ page_faulted → PageTurn journal doubt caller owner records after doubt_after answer
   -- memory was wanting, before or after settling
-  short_page : PageLeaves journal doubt after doubt_after → answer ≡ page_unheld → PageTurn journal doubt caller owner records after doubt_after answer
-  short_settled_page : PageLeaves (settled journal doubt) [] after doubt_after → answer ≡ page_unheld → PageTurn journal doubt caller owner records after doubt_after answer
+  short_page : PageLeaves journal doubt after doubt_after → answer ≡ page_no_memory → PageTurn journal doubt caller owner records after doubt_after answer
+  short_settled_page : PageLeaves (settled journal doubt) [] after doubt_after → answer ≡ page_no_memory → PageTurn journal doubt caller owner records after doubt_after answer

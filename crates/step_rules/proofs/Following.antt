@@ -15,7 +15,7 @@ use Rattle.record_rules.proofs.Members.{Has, find_has}
 use Rattle.record_rules.proofs.Soundness.{local_not_started}
 use Rattle.step_rules.specs.Calls.{Call, start_call, LimitedText, LongText, of_name, of_value, first_long, long_text, call_bytes, most_call_bytes, CallFits}
 use Rattle.step_rules.specs.Store.{Head, KeyedStore, sealed_record, payload_text_bytes, SealsWell}
-use Rattle.step_rules.specs.Step.{Draft, start_draft, record_draft, running_with, Drafts, start_drafts, end_drafts, delete_drafts, kv_set_drafts, alias_set_drafts, alias_delete_drafts, draft_passes, draws, drawn_id, next_head, draft_event, starts_id, is_taken}
+use Rattle.step_rules.specs.Step.{Draft, start_draft, record_draft, running_with, started_record, Drafts, start_drafts, end_drafts, delete_drafts, kv_set_drafts, alias_set_drafts, alias_delete_drafts, draft_passes, draws, drawn_id, next_head, draft_event, starts_id, is_taken}
 use Rattle.step_rules.proofs.Finding.{some_passes, none_passes, of_each}
 
 -- ---- texts
@@ -26,7 +26,7 @@ short_texts place limited later short =
     let parts = cond_none {A = LongText} (nat_lt limited.most (length limited.text)) (record { field = place; length = length limited.text }) (first_long (place + 1) later) short in
     (ltb-false limited.most (length limited.text) parts.0, parts.1)
 
-started_fits : (id now : ℕ) (command cwd session hostname : List ℕ) → long_text (start_call command cwd session hostname) ≡ None → StartedFits (record { id = id; timestamp = now; command = command; cwd = cwd; session = session; hostname = hostname })
+started_fits : (id now : ℕ) (command cwd session hostname : List ℕ) → long_text (start_call command cwd session hostname) ≡ None → StartedFits (started_record id now command cwd session hostname)
 started_fits id now command cwd session hostname short =
     let first = short_texts 1 (of_value command) (of_name cwd ∷ of_name session ∷ of_name hostname ∷ []) short in
     let second = short_texts 2 (of_name cwd) (of_name session ∷ of_name hostname ∷ []) first.1 in
@@ -146,7 +146,7 @@ draft_follows store journal call draft now drawn well many (start_fits command c
     let room_there : draft_passes store journal (start_draft command cwd session hostname) ≡ None = sym (ap (draft_passes store journal) draft_is) ∙ room in
     let free_there : is_taken journal (start_draft command cwd session hostname) (drawn_id now drawn) ≡ false = sym (ap (λ d. is_taken journal d (drawn_id now drawn)) draft_is) ∙ free in
     subst (λ d. MayFollow journal store.host (draft_event store journal d now drawn)) (sym draft_is)
-    (start_follows journal store.host (record { id = drawn_id now drawn; timestamp = now; command = command; cwd = cwd; session = session; hostname = hostname }) (started_fits (drawn_id now drawn) now command cwd session hostname short) free_there room_there)
+    (start_follows journal store.host (started_record (drawn_id now drawn) now command cwd session hostname) (started_fits (drawn_id now drawn) now command cwd session hostname short) free_there room_there)
 draft_follows store journal call draft now drawn well many (record_fits closes payload draft_is runs short) room free =
     let room_there : draft_passes store journal (record_draft closes payload) ≡ None = sym (ap (draft_passes store journal) draft_is) ∙ room in
     subst (λ d. MayFollow journal store.host (draft_event store journal d now drawn)) (sym draft_is)

@@ -5,13 +5,13 @@ use Rattle.std.proofs.lemmas.Bool.{cases_Bool, true≢false}
 use Rattle.std.proofs.lemmas.Option.{none-some, same_Some}
 use Rattle.definitions.specs.Step.{Used, used_nothing, read_clock, read_and_drew}
 use Rattle.payload_rules.specs.Payloads.{HistoryCreate, HistoryDelete, KvSet, AliasSet, AliasDelete}
-use Rattle.definitions.specs.Journal.{StartedRecord}
+use Rattle.definitions.specs.Journal.{StartedRecord, finished}
 use Rattle.record_rules.specs.Records.{Caller, Entry}
 use Rattle.record_rules.specs.Journal.{PassedLimit}
 use Rattle.step_rules.specs.Calls.{Call, start_call, end_call, delete_call, search_call, kv_set_call, kv_get_call, kv_list_call, alias_set_call, alias_delete_call, alias_list_call, status_call, is_read, LongText, long_text}
 use Rattle.step_rules.specs.Answers.{Refusal, too_long, unknown_id, unknown_name, full, id_taken, Answer, refused}
 use Rattle.step_rules.specs.Store.{KeyedStore, HasCommand, HasAlias}
-use Rattle.step_rules.specs.Step.{Draft, start_draft, record_draft, running_with, created, Drafts, start_drafts, end_drafts, delete_drafts, kv_set_drafts, alias_set_drafts, alias_delete_drafts, Unknown, end_unknown, delete_unknown, alias_unknown, draft_passes, Ready, draws, drawn_id, draft_event, is_taken, draft_answer, Shows, shows_hits, shows_value, shows_no_value, shows_keys, shows_aliases, shows_places, Step, long_step, unknown_step, full_step, taken_step, append_step, read_step}
+use Rattle.step_rules.specs.Step.{Draft, start_draft, record_draft, running_with, Drafts, start_drafts, end_drafts, delete_drafts, kv_set_drafts, alias_set_drafts, alias_delete_drafts, Unknown, end_unknown, delete_unknown, alias_unknown, draft_passes, Ready, draws, drawn_id, draft_event, is_taken, draft_answer, Shows, shows_hits, shows_value, shows_no_value, shows_keys, shows_aliases, shows_places, Step, long_step, unknown_step, full_step, taken_step, append_step, read_step}
 use Rattle.step_rules.specs.Laws.{ViewsAnswer}
 
 -- ---- what a writing call wants of a journal, its texts aside
@@ -22,7 +22,7 @@ data Want : Type 0 where
 
 abbrev want_of_end : (id : ℕ) (duration exit : ℤ) → Option StartedRecord → Want
 want_of_end id duration exit None = misses (unknown_id id)
-want_of_end id duration exit (Some s) = adds (record_draft (Some id) (HistoryCreate (created s duration exit)))
+want_of_end id duration exit (Some s) = adds (record_draft (Some id) (HistoryCreate (finished s duration exit)))
 
 -- what is wanted where the draft is there, a refusal of no meaning for a read
 abbrev want_of : List Entry → Call → Want
@@ -227,7 +227,7 @@ module _ (store : KeyedStore) (journal : List Entry) (caller : Caller) (call : C
 module _ (store : KeyedStore) (journal : List Entry) (caller : Caller) (now : ℕ) (ten all : List ℕ) (ten_are : length ten ≡ 10) (all_are : length all ≡ 106) (views : ViewsAnswer store journal) where
   end_happens : (id : ℕ) (duration exit : ℤ) (found : Option StartedRecord) → running_with id journal ≡ found → Happens store journal caller (end_call id duration exit)
   end_happens id duration exit None none = unknown_happens store journal caller (end_call id duration exit) now ten all ten_are all_are (unknown_id id) (end_unknown id duration exit refl none refl)
-  end_happens id duration exit (Some s) found = draft_happens store journal caller (end_call id duration exit) now ten all ten_are all_are (record_draft (Some id) (HistoryCreate (created s duration exit))) (end_drafts id duration exit s refl found refl)
+  end_happens id duration exit (Some s) found = draft_happens store journal caller (end_call id duration exit) now ten all ten_are all_are (record_draft (Some id) (HistoryCreate (finished s duration exit))) (end_drafts id duration exit s refl found refl)
 
   read_happens : (call : Call) → (answer : Answer) × Shows store journal call answer → Happens store journal caller call
   read_happens call told = shown_happens store journal caller call now ten all ten_are all_are told.0 told.1

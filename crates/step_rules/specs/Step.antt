@@ -1,12 +1,11 @@
 -- What one call does to a journal, and its answer: one constructor for each way in which it may come out.
-use Rattle.std.specs.Prelude.{◌≡◌, ℕ, ◌+◌, ℤ, List, [], ◌∷◌, ◌++◌, length, take, drop, find, map, Option, Some, None, Bool, true, false, ◌==◌}
+use Rattle.std.specs.Prelude.{◌≡◌, ℕ, ℤ, List, [], ◌∷◌, ◌++◌, length, take, drop, find, map, Option, Some, None, Bool, true, false, ◌==◌}
 use Rattle.std.specs.List.{list_any}
 use Rattle.definitions.specs.Ids.{made_id}
-use Rattle.definitions.specs.Journal.{StartedRecord, HistoryRecord}
+use Rattle.definitions.specs.Journal.{StartedRecord, HistoryRecord, finished}
 use Rattle.definitions.specs.Step.{Used, used_nothing, read_clock, read_and_drew}
 use Rattle.payload_rules.specs.Payloads.{Payload, HistoryCreate, HistoryDelete, KvSet, AliasSet, AliasDelete, tag_of, payload_version}
-use Rattle.record_rules.specs.Limits.{fixed_weight}
-use Rattle.record_rules.specs.Records.{Caller, Entry, Event, Started, Local, Taken}
+use Rattle.record_rules.specs.Records.{Caller, Entry, Event, Started, Local, Taken, started_weight}
 use Rattle.record_rules.specs.Journal.{ChainPlace, PassedLimit, chain, status, fits, running, events_of, records_of}
 use Rattle.view_rules.specs.Views.{viewed, ShowsKv}
 use Rattle.view_rules.specs.Answers.{ScopedQuery, SearchAnswer, Named, KvListAnswer, AliasListAnswer}
@@ -25,16 +24,11 @@ pub data Draft : Type 0 where
 abbrev pub running_with : ℕ → List Entry → Option StartedRecord
 running_with id journal = find (λ s. s.id == id) (running journal)
 
--- what is kept of a command when it ends
-abbrev pub created : StartedRecord → ℤ → ℤ → HistoryRecord
-created s duration exit =
-    record { id = s.id; timestamp = s.timestamp; duration = duration; exit = exit; command = s.command; cwd = s.cwd; session = s.session; hostname = s.hostname; deleted_at = None }
-
 pub data Drafts (store : KeyedStore) (journal : List Entry) (call : Call) (draft : Draft) : Type 0 where
   start_drafts : (command cwd session hostname : List ℕ) → call ≡ start_call command cwd session hostname → draft ≡ start_draft command cwd session hostname → Drafts store journal call draft
   -- an End closes a running command, and keeps what its start told
   end_drafts : (id : ℕ) (duration exit : ℤ) (s : StartedRecord) → call ≡ end_call id duration exit → running_with id journal ≡ Some s
-      → draft ≡ record_draft (Some id) (HistoryCreate (created s duration exit)) → Drafts store journal call draft
+      → draft ≡ record_draft (Some id) (HistoryCreate (finished s duration exit)) → Drafts store journal call draft
   -- only a command that is shown is deleted
   delete_drafts : (id : ℕ) → call ≡ delete_call id → HasCommand store journal id → draft ≡ record_draft None (HistoryDelete id) → Drafts store journal call draft
   kv_set_drafts : (namespace key value : List ℕ) → call ≡ kv_set_call namespace key value → draft ≡ record_draft None (KvSet namespace key value) → Drafts store journal call draft
@@ -48,11 +42,15 @@ pub data Unknown (store : KeyedStore) (journal : List Entry) (call : Call) (refu
   delete_unknown : (id : ℕ) → call ≡ delete_call id → (HasCommand store journal id → ⊥) → refusal ≡ unknown_id id → Unknown store journal call refusal
   alias_unknown : (name : List ℕ) → call ≡ alias_delete_call name → (HasAlias store journal name → ⊥) → refusal ≡ unknown_name name → Unknown store journal call refusal
 
+-- the command that starts, with its id and its time
+abbrev pub started_record : (id now : ℕ) (command cwd session hostname : List ℕ) → StartedRecord
+started_record id now command cwd session hostname = record { id = id; timestamp = now; command = command; cwd = cwd; session = session; hostname = hostname }
+
 -- ---- room for it
 
--- what the entry will weigh, in bytes
+-- what the entry will weigh, in bytes; the id and the time of a command weigh nothing
 abbrev pub draft_weight : KeyedStore → Draft → ℕ
-draft_weight store (start_draft command cwd session hostname) = fixed_weight + length command + length cwd + length session + length hostname
+draft_weight store (start_draft command cwd session hostname) = started_weight (started_record 0 0 command cwd session hostname)
 draft_weight store (record_draft closes payload) = store.weight_of payload
 
 -- the place of its record
@@ -87,7 +85,7 @@ next_head store journal payload id = record { id = id; idx = length (chain journ
 
 -- what is appended at this time with these drawn bytes
 abbrev pub draft_event : KeyedStore → List Entry → Draft → ℕ → List ℕ → Event
-draft_event store journal (start_draft command cwd session hostname) now drawn = Started (record { id = drawn_id now drawn; timestamp = now; command = command; cwd = cwd; session = session; hostname = hostname })
+draft_event store journal (start_draft command cwd session hostname) now drawn = Started (started_record (drawn_id now drawn) now command cwd session hostname)
 draft_event store journal (record_draft closes payload) now drawn =
     Local closes (sealed_record (next_head store journal payload (drawn_id now drawn)) now (store.seal (next_head store journal payload (drawn_id now drawn)) payload (drop 10 drawn)))
 

@@ -1,6 +1,7 @@
 -- What a store has beside its journal: its host, and what its key seals and opens. How it seals is not said here.
 use Rattle.std.specs.Prelude.{◌≡◌, ℕ, ◌+◌, ◌≤◌, List, [], length}
 use Rattle.definitions.specs.Journal.{HistoryRecord}
+use Rattle.definitions.specs.Search.{hit_bytes}
 use Rattle.payload_rules.specs.Payloads.{Payload, HistoryCreate, HistoryDelete, KvSet, AliasSet, AliasDelete, tag_of, payload_version}
 use Rattle.record_rules.specs.Limits.{most_page_weight}
 use Rattle.record_rules.specs.Records.{SealedRecord, Entry, record_weight}
@@ -36,7 +37,7 @@ pub record KeyedStore : Type 0 where
 
 -- bytes of all texts of a payload together
 abbrev pub payload_text_bytes : Payload → ℕ
-payload_text_bytes (HistoryCreate h) = length h.command + length h.cwd + length h.session + length h.hostname
+payload_text_bytes (HistoryCreate h) = hit_bytes h
 payload_text_bytes (HistoryDelete id) = 0
 payload_text_bytes (KvSet namespace key value) = length namespace + length key + length value
 payload_text_bytes (AliasSet name value) = length name + length value

@@ -12,7 +12,7 @@ use Rattle.step_rules.specs.Calls.{Call, start_call, end_call, delete_call, sear
 use Rattle.step_rules.specs.Answers.{Refusal, too_long, unknown_id, unknown_name, full, id_taken, Answer, refused}
 use Rattle.step_rules.specs.Store.{KeyedStore, HasCommand, HasAlias}
 use Rattle.step_rules.specs.Step.{Draft, start_draft, record_draft, running_with, Drafts, start_drafts, end_drafts, delete_drafts, kv_set_drafts, alias_set_drafts, alias_delete_drafts, Unknown, end_unknown, delete_unknown, alias_unknown, draft_passes, Ready, draws, drawn_id, draft_event, is_taken, draft_answer, Shows, shows_hits, shows_value, shows_no_value, shows_keys, shows_aliases, shows_places, Step, long_step, unknown_step, full_step, taken_step, append_step, read_step}
-use Rattle.step_rules.specs.Laws.{ViewsAnswer}
+use Rattle.step_rules.specs.Laws.{ViewsAnswer, UsesOf, uses_nothing, uses_clock, uses_ten, uses_all}
 
 -- ---- what a writing call wants of a journal, its texts aside
 
@@ -182,63 +182,69 @@ module _ (store : KeyedStore) (journal : List Entry) (caller : Caller) (call : C
 
   -- ---- a step for every call
 
-  pub record Happens : Type 0 where
-    pub used : Used
-    pub after : List Entry
-    pub answer : Answer
-    pub step : Step store journal caller call used after answer
+  module _ (now : ℕ) (ten all : List ℕ) where
+    pub record Happens : Type 0 where
+      pub used : Used
+      pub after : List Entry
+      pub answer : Answer
+      pub uses : UsesOf now ten all used
+      pub step : Step store journal caller call used after answer
 
-  happens : (used : Used) (after : List Entry) (answer : Answer) → Step store journal caller call used after answer → Happens
-  happens used after answer step = record { used = used; after = after; answer = answer; step = step }
-
-  module _ (now : ℕ) (ten all : List ℕ) (ten_are : length ten ≡ 10) (all_are : length all ≡ 106) where
-    shown_happens : (answer : Answer) → Shows store journal call answer → Happens
-    shown_happens answer shows = happens used_nothing journal answer (read_step refl shows refl)
-
-    unknown_happens : (refusal : Refusal) → Unknown store journal call refusal → Happens
-    unknown_happens refusal unknown = happens (read_clock now) journal (refused refusal) (unknown_step now refusal refl unknown (record { stays = refl; answer_is = refl }))
+    happens : (used : Used) (after : List Entry) (answer : Answer) → UsesOf now ten all used → Step store journal caller call used after answer → Happens
+    happens used after answer uses step = record { used = used; after = after; answer = answer; uses = uses; step = step }
 
     abbrev bytes_for : Draft → List ℕ
     bytes_for (start_draft command cwd session hostname) = ten
     bytes_for (record_draft closes payload) = all
 
-    bytes_are : (draft : Draft) → length (bytes_for draft) ≡ draws draft
-    bytes_are (start_draft command cwd session hostname) = ten_are
-    bytes_are (record_draft closes payload) = all_are
+    uses_bytes : (draft : Draft) → UsesOf now ten all (read_and_drew now (bytes_for draft))
+    uses_bytes (start_draft command cwd session hostname) = uses_ten refl
+    uses_bytes (record_draft closes payload) = uses_all refl
 
-    ready_happens : (draft : Draft) → Ready store journal call draft → Happens
-    ready_happens draft ready =
-        elim (cases_Bool (is_taken journal draft (drawn_id now (bytes_for draft)))) [
-          | inl taken ↦ happens (read_and_drew now (bytes_for draft)) journal (refused (id_taken (drawn_id now (bytes_for draft)))) (taken_step now (bytes_for draft) draft refl (bytes_are draft) ready taken (record { stays = refl; answer_is = refl }))
-          | inr free ↦ happens (read_and_drew now (bytes_for draft)) (journal ++ record { caller = caller; event = draft_event store journal draft now (bytes_for draft) } ∷ []) (draft_answer store journal draft (drawn_id now (bytes_for draft))) (append_step now (bytes_for draft) draft refl (bytes_are draft) ready free refl refl)
-        ]
+    shown_happens : (answer : Answer) → Shows store journal call answer → Happens
+    shown_happens answer shows = happens used_nothing journal answer (uses_nothing refl) (read_step refl shows refl)
 
-    by_room : (draft : Draft) (passed : Option PassedLimit) → long_text call ≡ None → Drafts store journal call draft → draft_passes store journal draft ≡ passed → Happens
-    by_room draft None short drafts room = ready_happens draft (record { short = short; drafts = drafts; room = room })
-    by_room draft (Some passed) short drafts passes = happens (read_clock now) journal (refused (full passed)) (full_step now draft passed refl short drafts passes (record { stays = refl; answer_is = refl }))
+    unknown_happens : (refusal : Refusal) → Unknown store journal call refusal → Happens
+    unknown_happens refusal unknown = happens (read_clock now) journal (refused refusal) (uses_clock refl) (unknown_step now refusal refl unknown (record { stays = refl; answer_is = refl }))
 
-    by_length : (draft : Draft) (long : Option LongText) → Drafts store journal call draft → long_text call ≡ long → Happens
-    by_length draft None drafts short = by_room draft (draft_passes store journal draft) short drafts refl
-    by_length draft (Some long) drafts is_long = happens (read_clock now) journal (refused (too_long long.field long.length)) (long_step now long refl is_long (record { stays = refl; answer_is = refl }))
+    module _ (ten_are : length ten ≡ 10) (all_are : length all ≡ 106) where
+      bytes_are : (draft : Draft) → length (bytes_for draft) ≡ draws draft
+      bytes_are (start_draft command cwd session hostname) = ten_are
+      bytes_are (record_draft closes payload) = all_are
 
-    pub draft_happens : (draft : Draft) → Drafts store journal call draft → Happens
-    draft_happens draft drafts = by_length draft (long_text call) drafts refl
+      ready_happens : (draft : Draft) → Ready store journal call draft → Happens
+      ready_happens draft ready =
+          elim (cases_Bool (is_taken journal draft (drawn_id now (bytes_for draft)))) [
+            | inl taken ↦ happens (read_and_drew now (bytes_for draft)) journal (refused (id_taken (drawn_id now (bytes_for draft)))) (uses_bytes draft) (taken_step now (bytes_for draft) draft refl (bytes_are draft) ready taken (record { stays = refl; answer_is = refl }))
+            | inr free ↦ happens (read_and_drew now (bytes_for draft)) (journal ++ record { caller = caller; event = draft_event store journal draft now (bytes_for draft) } ∷ []) (draft_answer store journal draft (drawn_id now (bytes_for draft))) (uses_bytes draft) (append_step now (bytes_for draft) draft refl (bytes_are draft) ready free refl refl)
+          ]
+
+      by_room : (draft : Draft) (passed : Option PassedLimit) → long_text call ≡ None → Drafts store journal call draft → draft_passes store journal draft ≡ passed → Happens
+      by_room draft None short drafts room = ready_happens draft (record { short = short; drafts = drafts; room = room })
+      by_room draft (Some passed) short drafts passes = happens (read_clock now) journal (refused (full passed)) (uses_clock refl) (full_step now draft passed refl short drafts passes (record { stays = refl; answer_is = refl }))
+
+      by_length : (draft : Draft) (long : Option LongText) → Drafts store journal call draft → long_text call ≡ long → Happens
+      by_length draft None drafts short = by_room draft (draft_passes store journal draft) short drafts refl
+      by_length draft (Some long) drafts is_long = happens (read_clock now) journal (refused (too_long long.field long.length)) (uses_clock refl) (long_step now long refl is_long (record { stays = refl; answer_is = refl }))
+
+      pub draft_happens : (draft : Draft) → Drafts store journal call draft → Happens
+      draft_happens draft drafts = by_length draft (long_text call) drafts refl
 
 module _ (store : KeyedStore) (journal : List Entry) (caller : Caller) (now : ℕ) (ten all : List ℕ) (ten_are : length ten ≡ 10) (all_are : length all ≡ 106) (views : ViewsAnswer store journal) where
-  end_happens : (id : ℕ) (duration exit : ℤ) (found : Option StartedRecord) → running_with id journal ≡ found → Happens store journal caller (end_call id duration exit)
-  end_happens id duration exit None none = unknown_happens store journal caller (end_call id duration exit) now ten all ten_are all_are (unknown_id id) (end_unknown id duration exit refl none refl)
+  end_happens : (id : ℕ) (duration exit : ℤ) (found : Option StartedRecord) → running_with id journal ≡ found → Happens store journal caller (end_call id duration exit) now ten all
+  end_happens id duration exit None none = unknown_happens store journal caller (end_call id duration exit) now ten all (unknown_id id) (end_unknown id duration exit refl none refl)
   end_happens id duration exit (Some s) found = draft_happens store journal caller (end_call id duration exit) now ten all ten_are all_are (record_draft (Some id) (HistoryCreate (finished s duration exit))) (end_drafts id duration exit s refl found refl)
 
-  read_happens : (call : Call) → (answer : Answer) × Shows store journal call answer → Happens store journal caller call
-  read_happens call told = shown_happens store journal caller call now ten all ten_are all_are told.0 told.1
+  read_happens : (call : Call) → (answer : Answer) × Shows store journal call answer → Happens store journal caller call now ten all
+  read_happens call told = shown_happens store journal caller call now ten all told.0 told.1
 
-  pub every_call_happens : (call : Call) → Happens store journal caller call
+  pub every_call_happens : (call : Call) → Happens store journal caller call now ten all
   every_call_happens (start_call command cwd session hostname) = draft_happens store journal caller (start_call command cwd session hostname) now ten all ten_are all_are (start_draft command cwd session hostname) (start_drafts command cwd session hostname refl refl)
   every_call_happens (end_call id duration exit) = end_happens id duration exit (running_with id journal) refl
   every_call_happens (delete_call id) =
       elim (views.command id) [
         | inl shown ↦ draft_happens store journal caller (delete_call id) now ten all ten_are all_are (record_draft None (HistoryDelete id)) (delete_drafts id refl shown refl)
-        | inr missing ↦ unknown_happens store journal caller (delete_call id) now ten all ten_are all_are (unknown_id id) (delete_unknown id refl missing refl)
+        | inr missing ↦ unknown_happens store journal caller (delete_call id) now ten all (unknown_id id) (delete_unknown id refl missing refl)
       ]
   every_call_happens (search_call asked) = read_happens (search_call asked) (views.reads (search_call asked) refl)
   every_call_happens (kv_set_call namespace key value) = draft_happens store journal caller (kv_set_call namespace key value) now ten all ten_are all_are (record_draft None (KvSet namespace key value)) (kv_set_drafts namespace key value refl refl)
@@ -248,7 +254,7 @@ module _ (store : KeyedStore) (journal : List Entry) (caller : Caller) (now : �
   every_call_happens (alias_delete_call name) =
       elim (views.name name) [
         | inl shown ↦ draft_happens store journal caller (alias_delete_call name) now ten all ten_are all_are (record_draft None (AliasDelete name)) (alias_delete_drafts name refl shown refl)
-        | inr missing ↦ unknown_happens store journal caller (alias_delete_call name) now ten all ten_are all_are (unknown_name name) (alias_unknown name refl missing refl)
+        | inr missing ↦ unknown_happens store journal caller (alias_delete_call name) now ten all (unknown_name name) (alias_unknown name refl missing refl)
       ]
   every_call_happens (alias_list_call after limit) = read_happens (alias_list_call after limit) (views.reads (alias_list_call after limit) refl)
   every_call_happens status_call = read_happens status_call (views.reads status_call refl)

@@ -1,6 +1,6 @@
 -- The laws of steps and turns, as statements. Each is the contract of the function of its name.
 use Rattle.std.specs.Prelude.{◌≡◌, ℕ, ◌≤◌, List, ◌++◌, length, All, true, false, ◌⊎◌}
-use Rattle.definitions.specs.Step.{Used}
+use Rattle.definitions.specs.Step.{Used, used_nothing, read_clock, read_and_drew}
 use Rattle.record_rules.specs.Records.{SealedRecord, Caller, Entry}
 use Rattle.record_rules.specs.Journal.{chain, IsNumbered, Sound}
 use Rattle.view_rules.specs.Views.{OpensByTag}
@@ -36,9 +36,17 @@ pub record ViewsAnswer (store : KeyedStore) (journal : List Entry) : Type 0 wher
   pub name : (name : List ℕ) → HasAlias store journal name ⊎ (HasAlias store journal name → ⊥)
   pub reads : (call : Call) → is_read call ≡ true → (answer : Answer) × Shows store journal call answer
 
--- where the views have answers, every call has an outcome, whatever the clock says and whichever bytes are drawn
+-- what a call may have used where the clock says this and these bytes are there to be drawn: a start takes the ten, a record all
+-- of the 106
+pub data UsesOf (now : ℕ) (ten all : List ℕ) (used : Used) : Type 0 where
+  uses_nothing : used ≡ used_nothing → UsesOf now ten all used
+  uses_clock : used ≡ read_clock now → UsesOf now ten all used
+  uses_ten : used ≡ read_and_drew now ten → UsesOf now ten all used
+  uses_all : used ≡ read_and_drew now all → UsesOf now ten all used
+
+-- where the views have answers, every call has an outcome that uses of these, whatever the clock says and whichever bytes are drawn
 abbrev pub StepHasOutcome : Type 0
-StepHasOutcome = (store : KeyedStore) (journal : List Entry) (caller : Caller) (call : Call) (now : ℕ) (ten all : List ℕ) → ViewsAnswer store journal → length ten ≡ 10 → length all ≡ 106 → (used : Used) × (after : List Entry) × (answer : Answer) × Step store journal caller call used after answer
+StepHasOutcome = (store : KeyedStore) (journal : List Entry) (caller : Caller) (call : Call) (now : ℕ) (ten all : List ℕ) → ViewsAnswer store journal → length ten ≡ 10 → length all ≡ 106 → (used : Used) × (after : List Entry) × (answer : Answer) × UsesOf now ten all used × Step store journal caller call used after answer
 
 -- a writing call has one outcome, given what it used
 abbrev pub WriteHasOneOutcome : Type 0

@@ -38,7 +38,7 @@ pub fn read_leaves()
 {}
 
 /// Every call has an outcome at every journal whose views have answers, whatever the clock says and
-/// whichever bytes are drawn.
+/// whichever bytes are drawn: it uses nothing, that reading alone, or with it those bytes.
 pub fn step_has_outcome()
     ensures { StepHasOutcome }
 {}

@@ -26,7 +26,8 @@ use Rattle.step_rules.specs.Store.{Head, KeyedStore, sealed_record, payload_text
 use Rattle.step_rules.specs.Step.{Draft, start_draft, record_draft, Drafts, start_drafts, end_drafts, delete_drafts, kv_set_drafts, alias_set_drafts, alias_delete_drafts, Unknown, end_unknown, delete_unknown, alias_unknown, draft_passes, Ready, draws, Step, long_step, unknown_step, full_step, taken_step, append_step, read_step, shows_value, shows_no_value, shows_places}
 use Rattle.step_rules.specs.Turn.{is_refusal, UsedSome, used_clock, used_bytes, Turn, read_turn, short_read_turn, unsettled_turn, undrawn_turn, step_turn, uncommitted_turn, short_turn, short_settled_turn}
 use Rattle.step_rules.specs.PageTurns.{page_faulted, PageTurn, unsettled_page, taken_page, refused_page, uncommitted_page, short_page, short_settled_page}
-use Rattle.step_rules.specs.Examples.{end_id, end_head, end_record, end_settled, first_time, second_time, ten_bytes, first_id, call_of, ls_call, ls, ls_entry, ls_ended, end_entry, OfExample, zeros_store, one_made, second_taken, WorkedStore, WorkedCommand, WorkedTexts, WorkedViews, WorkedDrafts, WorkedAsked, WorkedDoubt, WorkedPageTurns}
+use Rattle.step_rules.specs.ReadTurns.{status_read, front_read, read_faulted, read_no_memory, ReadTurn, tells_status, tells_page, tells_front, faults_on_page, wants_memory}
+use Rattle.step_rules.specs.Examples.{end_id, end_head, end_record, end_settled, first_time, second_time, ten_bytes, first_id, call_of, ls_call, ls, ls_entry, ls_ended, end_entry, OfExample, zeros_store, one_made, second_taken, WorkedStore, WorkedCommand, WorkedTexts, WorkedViews, WorkedDrafts, WorkedAsked, WorkedDoubt, WorkedPageTurns, WorkedReadTurns}
 use Rattle.step_rules.proofs.Following.{seal_bytes, tag_fits}
 
 ls_ready : (store : KeyedStore) (journal : List Entry) → draft_passes store journal (start_draft (codes "ls") (codes "/") (codes "s1") (codes "h:u")) ≡ None → Ready store journal ls_call (start_draft (codes "ls") (codes "/") (codes "s1") (codes "h:u"))
@@ -384,4 +385,46 @@ page_turns = record {
   short = short_page (record { journal_is = refl; doubt_is = refl }) refl;
   short_settled = short_settled_page (record { journal_is = refl; doubt_is = refl }) refl;
   no_fault = no_page_fault;
+}
+
+-- ---- reads beside a session
+
+no_fault_of_status : (owner : ℕ) (after doubt_after : List Entry) → ReadTurn [] [] (status_read owner) after doubt_after read_faulted → ⊥
+no_fault_of_status owner after doubt_after (tells_status _ _ _ e) = absurd cc
+no_fault_of_status owner after doubt_after (tells_page _ _ _ _ _ _ _ e) = absurd cc
+no_fault_of_status owner after doubt_after (tells_front _ _ e) = absurd cc
+no_fault_of_status owner after doubt_after (faults_on_page _ _ _ _ _ e _ _) = absurd cc
+no_fault_of_status owner after doubt_after (wants_memory _ _ e) = absurd cc
+
+no_fault_of_front : (after doubt_after : List Entry) → ReadTurn [] [] front_read after doubt_after read_faulted → ⊥
+no_fault_of_front after doubt_after (tells_status _ _ _ e) = absurd cc
+no_fault_of_front after doubt_after (tells_page _ _ _ _ _ _ _ e) = absurd cc
+no_fault_of_front after doubt_after (tells_front _ _ e) = absurd cc
+no_fault_of_front after doubt_after (faults_on_page _ _ _ _ _ e _ _) = absurd cc
+no_fault_of_front after doubt_after (wants_memory _ _ e) = absurd cc
+
+no_want_of_front : (after doubt_after : List Entry) → ReadTurn [] [] front_read after doubt_after read_no_memory → ⊥
+no_want_of_front after doubt_after (tells_status _ _ _ e) = absurd cc
+no_want_of_front after doubt_after (tells_page _ _ _ _ _ _ _ e) = absurd cc
+no_want_of_front after doubt_after (tells_front _ _ e) = absurd cc
+no_want_of_front after doubt_after (faults_on_page _ _ _ _ _ _ _ e) = absurd cc
+no_want_of_front after doubt_after (wants_memory other _ _) = other refl
+
+pub read_turns : WorkedReadTurns
+read_turns = record {
+  status_in_doubt = tells_status 5 refl (record { journal_is = refl; doubt_is = refl }) refl;
+  page_in_doubt = tells_page 5 2 _ 0 100 refl (record { journal_is = refl; doubt_is = refl }) refl;
+  front_in_doubt = tells_front refl (record { journal_is = refl; doubt_is = refl }) refl;
+  a_status = tells_status 5 refl (record { journal_is = refl; doubt_is = refl }) refl;
+  other_owner = tells_status 0 refl (record { journal_is = refl; doubt_is = refl }) refl;
+  a_page = tells_page 5 2 _ 0 100 refl (record { journal_is = refl; doubt_is = refl }) refl;
+  from_one = tells_page 5 2 _ 1 100 refl (record { journal_is = refl; doubt_is = refl }) refl;
+  one_record = tells_page 5 2 _ 0 1 refl (record { journal_is = refl; doubt_is = refl }) refl;
+  a_front = tells_front refl (record { journal_is = refl; doubt_is = refl }) refl;
+  page_fault = faults_on_page 5 2 _ 0 100 refl (record { journal_is = refl; doubt_is = refl }) refl;
+  no_status_fault = no_fault_of_status;
+  no_front_fault = no_fault_of_front;
+  short_status = wants_memory (λ e. cc) (record { journal_is = refl; doubt_is = refl }) refl;
+  short_page = wants_memory (λ e. cc) (record { journal_is = refl; doubt_is = refl }) refl;
+  no_short_front = no_want_of_front;
 }

@@ -6,3 +6,4 @@ pub mod Outcomes
 pub mod Steps
 pub mod Turns
 pub mod PageTurns
+pub mod ReadTurns

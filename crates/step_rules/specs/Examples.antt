@@ -17,6 +17,7 @@ use Rattle.step_rules.specs.Store.{Head, Seal, KeyedStore, payload_text_bytes, S
 use Rattle.step_rules.specs.Step.{start_draft, record_draft, Drafts, draft_place, next_head, draft_answer, Step}
 use Rattle.step_rules.specs.Turn.{UsedSome, Turn}
 use Rattle.step_rules.specs.PageTurns.{took, page_refused, page_faulted, page_no_memory, PageTurn}
+use Rattle.step_rules.specs.ReadTurns.{status_read, page_read, front_read, told_status, told_page, told_front, read_faulted, read_no_memory, ReadTurn}
 
 -- ---- a command of host 1 that starts, and ends
 
@@ -264,3 +265,23 @@ pub record WorkedPageTurns : Type 0 where
   pub short_settled : PageTurn (ls_entry ∷ []) (first_in_doubt ∷ []) (call_of 3) 5 two_records (ls_entry ∷ first_settled ∷ []) [] page_no_memory
   -- where nothing is in doubt and nothing is fresh, nothing is written that could fail
   pub no_fault : (after doubt_after : List Entry) → PageTurn [] [] (call_of 1) 5 [] after doubt_after page_faulted → ⊥
+
+-- reads beside a session: what is in doubt stays so, and isn't shown
+pub record WorkedReadTurns : Type 0 where
+  pub status_in_doubt : ReadTurn (ls_entry ∷ []) (first_in_doubt ∷ []) (status_read 5) (ls_entry ∷ []) (first_in_doubt ∷ []) (told_status [])
+  pub page_in_doubt : ReadTurn (ls_entry ∷ []) (first_in_doubt ∷ []) (page_read 5 2 (codes "kv") 0 100) (ls_entry ∷ []) (first_in_doubt ∷ []) (told_page [])
+  pub front_in_doubt : ReadTurn (ls_entry ∷ []) (first_in_doubt ∷ []) front_read (ls_entry ∷ []) (first_in_doubt ∷ []) (told_front 1)
+  -- once both are taken
+  pub a_status : ReadTurn (ls_entry ∷ first_settled ∷ second_taken ∷ []) [] (status_read 5) (ls_entry ∷ first_settled ∷ second_taken ∷ []) [] (told_status (record { host = 2; tag = codes "kv"; count = 2 } ∷ []))
+  pub other_owner : ReadTurn (ls_entry ∷ first_settled ∷ second_taken ∷ []) [] (status_read 0) (ls_entry ∷ first_settled ∷ second_taken ∷ []) [] (told_status [])
+  pub a_page : ReadTurn (ls_entry ∷ first_settled ∷ second_taken ∷ []) [] (page_read 5 2 (codes "kv") 0 100) (ls_entry ∷ first_settled ∷ second_taken ∷ []) [] (told_page two_records)
+  pub from_one : ReadTurn (ls_entry ∷ first_settled ∷ second_taken ∷ []) [] (page_read 5 2 (codes "kv") 1 100) (ls_entry ∷ first_settled ∷ second_taken ∷ []) [] (told_page (kv_record 1 1001 ∷ []))
+  pub one_record : ReadTurn (ls_entry ∷ first_settled ∷ second_taken ∷ []) [] (page_read 5 2 (codes "kv") 0 1) (ls_entry ∷ first_settled ∷ second_taken ∷ []) [] (told_page (kv_record 0 1000 ∷ []))
+  pub a_front : ReadTurn (ls_entry ∷ first_settled ∷ second_taken ∷ []) [] front_read (ls_entry ∷ first_settled ∷ second_taken ∷ []) [] (told_front 3)
+  -- the disk may fail under a page alone, and memory may be wanting for all but the front
+  pub page_fault : ReadTurn (ls_entry ∷ []) (first_in_doubt ∷ []) (page_read 5 2 (codes "kv") 0 100) (ls_entry ∷ []) (first_in_doubt ∷ []) read_faulted
+  pub no_status_fault : (owner : ℕ) (after doubt_after : List Entry) → ReadTurn [] [] (status_read owner) after doubt_after read_faulted → ⊥
+  pub no_front_fault : (after doubt_after : List Entry) → ReadTurn [] [] front_read after doubt_after read_faulted → ⊥
+  pub short_status : ReadTurn (ls_entry ∷ []) (first_in_doubt ∷ []) (status_read 5) (ls_entry ∷ []) (first_in_doubt ∷ []) read_no_memory
+  pub short_page : ReadTurn (ls_entry ∷ []) (first_in_doubt ∷ []) (page_read 5 2 (codes "kv") 0 100) (ls_entry ∷ []) (first_in_doubt ∷ []) read_no_memory
+  pub no_short_front : (after doubt_after : List Entry) → ReadTurn [] [] front_read after doubt_after read_no_memory → ⊥

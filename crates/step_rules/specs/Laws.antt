@@ -10,6 +10,7 @@ use Rattle.step_rules.specs.Store.{KeyedStore, SealsWell, HasCommand, HasAlias}
 use Rattle.step_rules.specs.Step.{Shows, Step}
 use Rattle.step_rules.specs.Turn.{settled, Turn}
 use Rattle.step_rules.specs.PageTurns.{PageAnswer, PageTurn}
+use Rattle.step_rules.specs.ReadTurns.{StoreRead, ReadAnswer, ReadTurn}
 
 -- a step from a sound journal leaves a sound journal
 abbrev pub StepKeepsSound : Type 0
@@ -74,3 +75,7 @@ PageTurnKeepsSound = (journal doubt : List Entry) (caller : Caller) (owner : ℕ
 
 abbrev pub PageTurnOnlyAdds : Type 0
 PageTurnOnlyAdds = (journal doubt : List Entry) (caller : Caller) (owner : ℕ) (records : List SealedRecord) (after doubt_after : List Entry) (answer : PageAnswer) → PageTurn journal doubt caller owner records after doubt_after answer → (added : List Entry) × (after ≡ journal ++ added)
+
+-- a turn with a read leaves the journal, and what is in doubt
+abbrev pub ReadTurnLeaves : Type 0
+ReadTurnLeaves = (journal doubt : List Entry) (read : StoreRead) (after doubt_after : List Entry) (answer : ReadAnswer) → ReadTurn journal doubt read after doubt_after answer → (after ≡ journal) × (doubt_after ≡ doubt)

@@ -4,5 +4,6 @@ pub mod Store
 pub mod Step
 pub mod Turn
 pub mod PageTurns
+pub mod ReadTurns
 pub mod Laws
 pub mod Examples

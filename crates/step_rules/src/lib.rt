@@ -1,5 +1,6 @@
 //! What one call does to a journal, and its answer: the calls with their limits, the step, and the
-//! turn, which is a step on a disk that may fail; and the laws that hold of these words alone.
+//! turn, which is a step on a disk that may fail; pages that are taken in and what is read beside a
+//! session, in turns of their own; and the laws that hold of these words alone.
 //!
 //! A call is refused, or appends one entry, or shows something. What the key of a store seals and
 //! opens is a parameter. The words for journals are those of `record_rules`, those for what records
@@ -8,8 +9,8 @@
 //! Each function has an empty body, and its contract is the law that its name says.
 #![tactic(auto)]
 
-ghost use Rattle.step_rules.specs.Laws.{StepKeepsSound, StepNumbersChains, StepAddsOne, RefusalLeaves, ReadLeaves, StepHasOutcome, WriteHasOneOutcome, StepHasOneOutcome, TurnKeepsSound, TurnTellsFront, TurnOnlyAdds, PageTurnKeepsSound, PageTurnOnlyAdds};
-ghost use Rattle.step_rules.specs.Examples.{WorkedStore, WorkedCommand, WorkedTexts, WorkedViews, WorkedDrafts, WorkedAsked, WorkedDoubt, WorkedPageTurns};
+ghost use Rattle.step_rules.specs.Laws.{StepKeepsSound, StepNumbersChains, StepAddsOne, RefusalLeaves, ReadLeaves, StepHasOutcome, WriteHasOneOutcome, StepHasOneOutcome, TurnKeepsSound, TurnTellsFront, TurnOnlyAdds, PageTurnKeepsSound, PageTurnOnlyAdds, ReadTurnLeaves};
+ghost use Rattle.step_rules.specs.Examples.{WorkedStore, WorkedCommand, WorkedTexts, WorkedViews, WorkedDrafts, WorkedAsked, WorkedDoubt, WorkedPageTurns, WorkedReadTurns};
 
 /// A step from a sound journal leaves a sound journal.
 pub fn step_keeps_sound()
@@ -79,6 +80,11 @@ pub fn page_turn_only_adds()
     ensures { PageTurnOnlyAdds }
 {}
 
+/// A turn with a read of a status, a page or the front leaves the journal, and what is in doubt.
+pub fn read_turn_leaves()
+    ensures { ReadTurnLeaves }
+{}
+
 /// What is asked of a store can be met, by one that seals to zeros.
 pub fn worked_store()
     ensures { WorkedStore }
@@ -119,4 +125,10 @@ pub fn worked_doubt()
 /// doubt settled first; and memory that is wanting.
 pub fn worked_page_turns()
     ensures { WorkedPageTurns }
+{}
+
+/// Reads of a status, a page and the front, worked out: with a commit in doubt and after it, and where the
+/// disk fails or memory is wanting.
+pub fn worked_read_turns()
+    ensures { WorkedReadTurns }
 {}

@@ -4,14 +4,19 @@ use Rattle.std.specs.Prelude.{◌+◌, ◌<◌, ◌≤◌, ◌^◌, pos, nat_lt,
 use Rattle.std.specs.Option.{option_or}
 use Rattle.std.proofs.lemmas.Bool.{eq-eqb, true≢false}
 use Rattle.std.proofs.lemmas.Option.{none-some, same_Some}
-use Rattle.std.proofs.lemmas.List.{length-append, length-replicate}
+use Rattle.std.proofs.lemmas.List.{append-nil, length-append, length-replicate}
 use Rattle.std.proofs.lemmas.Slice.Eq.{bytes_eq-Decides}
+use Rattle.definitions.specs.Calls.{by_prefix}
 use Rattle.definitions.specs.Journal.{HistoryRecord}
-use Rattle.std.specs.List.{Contains}
+use Rattle.definitions.specs.Search.{hit_bytes, IsPage, FitsPage}
+use Rattle.definitions.proofs.Among.{HaveOwnIds-none, HaveOwnIds-more}
+use Rattle.std.proofs.lemmas.List.Sorted.{IsPermutation-refl}
+use Rattle.std.specs.List.{Contains, filter}
+use Rattle.std.specs.List.Sorted.{IsPermutation}
 use Rattle.definitions.specs.Step.{Used, used_nothing, read_clock, read_and_drew}
 use Rattle.payload_rules.specs.Payloads.{Payload, HistoryCreate, HistoryDelete, KvSet, AliasSet, AliasDelete, tag_of, history_tag, payload_version}
 use Rattle.record_rules.specs.Limits.{most_value_bytes, most_name_bytes, most_page_weight, most_held_weight}
-use Rattle.record_rules.specs.Records.{SealedRecord, Entry, Local, record_weight, event_weight}
+use Rattle.record_rules.specs.Records.{SealedRecord, Caller, Entry, Local, record_weight, event_weight}
 use Rattle.record_rules.specs.Growth.{PageRefusal, PageGap}
 use Rattle.record_rules.specs.Journal.{ChainCount, chain, own_events, entries_passed, weight_passed, places_passed, fits, status}
 use Rattle.std.specs.declared.cmp.Ordering.TheVariants.{Less}
@@ -19,15 +24,16 @@ use Rattle.std.specs.Ordering.{ordering_reverse}
 use Rattle.std.specs.Cmp.{IsTotalOrder}
 use Rattle.std.proofs.lemmas.Cmp.{then_total, on_total, nat_cmp_total}
 use Rattle.view_rules.specs.Views.{ShowsHistory, Dead, by_deletion, by_creation, ShowsKv, NamesAlias, ShowsAlias, origin_cmp, time_cmp}
-use Rattle.view_rules.proofs.Chains.{Has-from_Contains}
+use Rattle.view_rules.specs.Answers.{of_all, ScopedQuery, is_found, IsScopedAnswer, SearchAnswer}
+use Rattle.view_rules.proofs.Chains.{Has-from_Contains, Contains-from_Has}
 use Rattle.step_rules.specs.Calls.{end_call, of_name, of_value, first_long, most_call_bytes}
-use Rattle.step_rules.specs.Answers.{Refusal, unknown_id, id_taken, disk_fault, no_memory, Answer, began, stored, value_is, places, refused, Reply}
+use Rattle.step_rules.specs.Answers.{Refusal, unknown_id, id_taken, disk_fault, no_memory, Answer, began, stored, hits, value_is, places, refused, Reply}
 use Rattle.step_rules.specs.Store.{Head, KeyedStore, sealed_record, payload_text_bytes, SealsWell}
-use Rattle.step_rules.specs.Step.{Draft, start_draft, record_draft, Drafts, start_drafts, end_drafts, delete_drafts, kv_set_drafts, alias_set_drafts, alias_delete_drafts, Unknown, end_unknown, delete_unknown, alias_unknown, draft_passes, Ready, draws, Step, long_step, unknown_step, full_step, taken_step, append_step, read_step, shows_value, shows_no_value, shows_places}
+use Rattle.step_rules.specs.Step.{Draft, start_draft, record_draft, Drafts, start_drafts, end_drafts, delete_drafts, kv_set_drafts, alias_set_drafts, alias_delete_drafts, Unknown, end_unknown, delete_unknown, alias_unknown, draft_passes, Ready, draws, Step, long_step, unknown_step, full_step, taken_step, append_step, read_step, shows_hits, shows_value, shows_no_value, shows_places}
 use Rattle.step_rules.specs.Turn.{is_refusal, UsedSome, used_clock, used_bytes, Turn, read_turn, short_read_turn, unsettled_turn, undrawn_turn, step_turn, uncommitted_turn, short_turn, short_settled_turn}
 use Rattle.step_rules.specs.PageTurns.{page_faulted, PageTurn, unsettled_page, taken_page, refused_page, uncommitted_page, short_page, short_settled_page}
 use Rattle.step_rules.specs.ReadTurns.{status_read, front_read, read_faulted, read_no_memory, ReadTurn, tells_status, tells_page, tells_front, faults_on_page, wants_memory}
-use Rattle.step_rules.specs.Examples.{end_id, end_head, end_record, end_settled, first_time, second_time, ten_bytes, first_id, call_of, ls_call, ls, ls_entry, ls_ended, end_entry, OfExample, zeros_store, one_made, second_taken, WorkedStore, WorkedCommand, WorkedTexts, WorkedViews, WorkedDrafts, WorkedAsked, WorkedDoubt, WorkedPageTurns, WorkedReadTurns}
+use Rattle.step_rules.specs.Examples.{end_id, end_head, end_record, end_settled, first_time, second_time, third_time, ten_bytes, other_bytes, first_id, other_id, call_of, ls_call, ls, ls_entry, other_entry, ls_ended, end_entry, OfExample, zeros_store, one_made, second_taken, WorkedStore, WorkedCommand, WorkedTexts, WorkedViews, WorkedDrafts, RunOf, WorkedRun, WorkedAsked, WorkedDoubt, WorkedPageTurns, WorkedReadTurns}
 use Rattle.step_rules.proofs.Following.{seal_bytes, tag_fits}
 
 ls_ready : (store : KeyedStore) (journal : List Entry) → draft_passes store journal (start_draft (codes "ls") (codes "/") (codes "s1") (codes "h:u")) ≡ None → Ready store journal ls_call (start_draft (codes "ls") (codes "/") (codes "s1") (codes "h:u"))
@@ -39,8 +45,8 @@ ls_starts store = append_step first_time ten_bytes (start_draft (codes "ls") (co
 end_room : (store : KeyedStore) → OfExample store → draft_passes store (ls_entry ∷ []) (record_draft (Some first_id) (HistoryCreate ls_ended)) ≡ None
 end_room store of_example = ap (λ w. fits (ls_entry ∷ []) 0 w (Some (record { host = store.host; tag = history_tag }))) of_example.weight
 
-ls_ends : (store : KeyedStore) (drawn : List ℕ) → OfExample store → length drawn ≡ 106 → Step store (ls_entry ∷ []) (call_of 2) (end_call first_id (pos 1000) (pos 0)) (read_and_drew second_time drawn) (ls_entry ∷ end_entry store drawn ∷ []) (stored 0)
-ls_ends store drawn of_example many =
+ls_ends : (store : KeyedStore) (drawn : List ℕ) (caller : Caller) → OfExample store → length drawn ≡ 106 → Step store (ls_entry ∷ []) caller (end_call first_id (pos 1000) (pos 0)) (read_and_drew second_time drawn) (ls_entry ∷ record { caller = caller; event = Local (Some first_id) (end_record store drawn) } ∷ []) (stored 0)
+ls_ends store drawn caller of_example many =
     append_step second_time drawn (record_draft (Some first_id) (HistoryCreate ls_ended)) refl many
     (record { short = refl; drafts = end_drafts first_id (pos 1000) (pos 0) ls refl refl refl; room = end_room store of_example }) refl refl refl
 
@@ -81,7 +87,7 @@ pub commands : WorkedCommand
 commands = record {
   starts = ls_starts;
   starts_again = λ store. taken_step first_time ten_bytes (start_draft (codes "ls") (codes "/") (codes "s1") (codes "h:u")) refl refl (ls_ready store (ls_entry ∷ []) refl) refl (record { stays = refl; answer_is = refl });
-  ends = ls_ends;
+  ends = λ store drawn of_example many. ls_ends store drawn (call_of 2) of_example many;
   end_taken = λ store drawn r of_example many same.
       taken_step second_time drawn (record_draft (Some first_id) (HistoryCreate ls_ended)) refl many
       (record { short = refl; drafts = end_drafts first_id (pos 1000) (pos 0) ls refl refl refl; room = end_room store of_example })
@@ -91,7 +97,6 @@ commands = record {
   starts_beside = λ store r same. append_step first_time ten_bytes (start_draft (codes "ls") (codes "/") (codes "s1") (codes "h:u")) refl refl (ls_ready store _ refl) refl refl refl;
   ends_again = λ store drawn. unknown_step second_time _ refl (end_unknown first_id (pos 1000) (pos 0) refl refl refl) (record { stays = refl; answer_is = refl });
   never_ran = λ store. unknown_step first_time _ refl (end_unknown _ (pos 0) (pos 0) refl refl refl) (record { stays = refl; answer_is = refl });
-  starts_at_one = λ store. step_turn (ls_entry ∷ []) (began first_id) refl (ls_starts store) (record { journal_is = refl; doubt_is = refl; reply_is = refl });
 }
 
 pub texts : WorkedTexts
@@ -287,11 +292,14 @@ no_page_fault after doubt_after (short_page _ e) = absurd cc
 no_page_fault after doubt_after (short_settled_page _ e) = absurd cc
 
 -- with a host of 1 the end stands in that host's chain
-abbrev status_with : KeyedStore → List ℕ → ℕ → List ChainCount
-status_with store drawn host = status (ls_entry ∷ record { caller = record { number = 0; call = 2; settled_for = 1 }; event = Local (Some first_id) (record (end_record store drawn) { host = host }) } ∷ []) 0
+abbrev status_with : KeyedStore → List ℕ → List Entry → ℕ → List ChainCount
+status_with store drawn later host = status (ls_entry ∷ record { caller = record { number = 0; call = 2; settled_for = 1 }; event = Local (Some first_id) (record (end_record store drawn) { host = host }) } ∷ later) 0
 
 chain_told : (store : KeyedStore) (drawn : List ℕ) → OfExample store → status (ls_entry ∷ end_settled store drawn ∷ []) 0 ≡ record { host = 1; tag = history_tag; count = 1 } ∷ []
-chain_told store drawn of_example = ap (status_with store drawn) of_example.host
+chain_told store drawn of_example = ap (status_with store drawn []) of_example.host
+
+chain_behind : (store : KeyedStore) (drawn : List ℕ) → OfExample store → status (ls_entry ∷ end_settled store drawn ∷ other_entry ∷ []) 0 ≡ record { host = 1; tag = history_tag; count = 1 } ∷ []
+chain_behind store drawn of_example = ap (status_with store drawn (other_entry ∷ [])) of_example.host
 
 -- both weigh 720 bytes, which leaves room
 both_weigh : (store : KeyedStore) (drawn : List ℕ) → SealsWell store → OfExample store → length drawn ≡ 106 → sum_by event_weight (own_events (ls_entry ∷ end_settled store drawn ∷ []) 0) ≡ 720
@@ -304,16 +312,20 @@ room_for_more store drawn well of_example many =
 
 pub doubt : WorkedDoubt
 doubt = record {
-  in_doubt = λ store drawn of_example many. uncommitted_turn (end_entry store drawn ∷ []) (end_entry store drawn ∷ []) (stored 0) refl refl (ls_ends store drawn of_example many) (inr refl) (record { journal_is = refl; doubt_is = refl; reply_is = refl });
-  lost = λ store drawn of_example many. uncommitted_turn (end_entry store drawn ∷ []) [] (stored 0) refl refl (ls_ends store drawn of_example many) (inl refl) (record { journal_is = refl; doubt_is = refl; reply_is = refl });
+  in_doubt = λ store drawn of_example many. uncommitted_turn (end_entry store drawn ∷ []) (end_entry store drawn ∷ []) (stored 0) refl refl (ls_ends store drawn (call_of 2) of_example many) (inr refl) (record { journal_is = refl; doubt_is = refl; reply_is = refl });
+  lost = λ store drawn of_example many. uncommitted_turn (end_entry store drawn ∷ []) [] (stored 0) refl refl (ls_ends store drawn (call_of 2) of_example many) (inl refl) (record { journal_is = refl; doubt_is = refl; reply_is = refl });
   not_shown = λ store drawn. read_turn (places []) refl (shows_places refl refl) (record { journal_is = refl; doubt_is = refl; reply_is = refl });
   is_settled = λ store drawn well of_example many. step_turn (ls_entry ∷ end_settled store drawn ∷ []) (refused (id_taken first_id)) refl
       (taken_step first_time ten_bytes (start_draft (codes "ls") (codes "/") (codes "s1") (codes "h:u")) refl refl (ls_ready store (ls_entry ∷ end_settled store drawn ∷ []) (room_for_more store drawn well of_example many)) refl (record { stays = refl; answer_is = refl }))
       (record { journal_is = refl; doubt_is = refl; reply_is = refl });
+  then_starts = λ store drawn well of_example many. step_turn (ls_entry ∷ end_settled store drawn ∷ other_entry ∷ []) (began other_id) refl
+      (append_step third_time other_bytes (start_draft (codes "ls") (codes "/") (codes "s1") (codes "h:u")) refl refl (ls_ready store (ls_entry ∷ end_settled store drawn ∷ []) (room_for_more store drawn well of_example many)) refl refl refl)
+      (record { journal_is = refl; doubt_is = refl; reply_is = refl });
   then_shown = λ store drawn of_example. read_turn (places (record { host = 1; tag = history_tag; count = 1 } ∷ [])) refl (shows_places refl (ap places (sym (chain_told store drawn of_example)))) (record { journal_is = refl; doubt_is = refl; reply_is = refl });
+  shown_behind = λ store drawn of_example. read_turn (places (record { host = 1; tag = history_tag; count = 1 } ∷ [])) refl (shows_places refl (ap places (sym (chain_behind store drawn of_example)))) (record { journal_is = refl; doubt_is = refl; reply_is = refl });
   stays_in_doubt = λ store drawn. unsettled_turn second_time refl (λ e. cc) refl (record { journal_is = refl; doubt_is = refl; reply_is = refl });
   not_drawn = λ store. undrawn_turn first_time _ (ls_ready store [] refl) refl (record { journal_is = refl; doubt_is = refl; reply_is = refl });
-  again = λ store drawn of_example many. step_turn (ls_entry ∷ end_entry store drawn ∷ []) (stored 0) refl (ls_ends store drawn of_example many) (record { journal_is = refl; doubt_is = refl; reply_is = refl });
+  again = λ store drawn of_example many. step_turn (ls_entry ∷ record { caller = call_of 3; event = Local (Some first_id) (end_record store drawn) } ∷ []) (stored 0) refl (ls_ends store drawn (call_of 3) of_example many) (record { journal_is = refl; doubt_is = refl; reply_is = refl });
   short_read = λ store drawn. short_read_turn refl refl (record { journal_is = refl; doubt_is = refl; reply_is = refl });
   short = λ store drawn. short_turn refl (used_clock second_time refl) (record { journal_is = refl; doubt_is = refl; reply_is = refl });
   short_settled = λ store drawn. short_settled_turn refl (used_bytes first_time (start_draft (codes "ls") (codes "/") (codes "s1") (codes "h:u")) ten_bytes refl refl) (record { journal_is = refl; doubt_is = refl; reply_is = refl });
@@ -328,6 +340,8 @@ drafts = record {
   sets_alias = λ store. alias_set_drafts _ _ refl refl;
   deletes = λ store r opened. delete_drafts first_id refl (ls_ended, command_shown store r opened, refl) refl;
   no_command = λ store r opened. unknown_step first_time _ refl (delete_unknown 7 refl (no_other store r opened) refl) (record { stays = refl; answer_is = refl });
+  runs_still = λ store. unknown_step second_time _ refl (delete_unknown first_id refl (λ shown. none_in_nothing shown.1.0 shown.1.1.created.among) refl) (record { stays = refl; answer_is = refl });
+  deleted_before = λ store r s opened. unknown_step first_time _ refl (delete_unknown first_id refl (λ shown. shown.1.1.alive (by_deletion s (1, omega arith, refl) (opened ∙ ap (λ id. Some (HistoryDelete id)) (sym shown.2)))) refl) (record { stays = refl; answer_is = refl });
   deletes_alias = λ store r opened. alias_delete_drafts (codes "g") refl (codes "v", alias_shown store r opened) refl;
   no_name = λ store r opened. unknown_step first_time _ refl (alias_unknown (codes "v") refl (no_other_name store r opened) refl) (record { stays = refl; answer_is = refl });
   next_idx = λ store id of_example. ap (λ host. record { id = id; idx = length (chain (one_made ∷ []) 0 host history_tag); version = payload_version; tag = history_tag; host = host }) of_example.host;
@@ -335,6 +349,71 @@ drafts = record {
   takes_place = λ store of_example. ap (λ host. Some (record { host = host; tag = history_tag })) of_example.host;
   takes_none = λ store. refl;
 }
+
+-- ---- a command that is started, ended and found
+
+-- a page of all that is left
+whole_page : (limit : ℕ) (page : List HistoryRecord) → FitsPage hit_bytes limit page → IsPage hit_bytes limit page page
+whole_page limit page fits = record { rest = []; front = sym (append-nil page); fits = fits; most = λ next others e more. absurd cc }
+
+abbrev no_hits : List HistoryRecord
+no_hits = []
+
+abbrev search_for : (text : List ℕ) (offset : ℕ) → ScopedQuery
+search_for text offset = record { scope = of_all; unique = false; query = record { mode = by_prefix; text = text; offset = offset; limit = 100 } }
+
+none_are_shown : (text : List ℕ) (entries : List HistoryRecord) → filter (is_found (search_for text 0)) entries ≡ no_hits → IsScopedAnswer (search_for text 0) entries no_hits
+none_are_shown text entries none = record {
+  in_order = no_hits;
+  found = subst (λ (found : List HistoryRecord). IsPermutation found no_hits) (sym none) (IsPermutation-refl no_hits);
+  sorted = λ k d low high. absurd (omega arith);
+  cut = whole_page 100 no_hits (omega arith, inl (omega arith));
+}
+
+none_ended_found : (store : KeyedStore) → SearchAnswer store.opens [] (search_for (codes "ls") 0) no_hits
+none_ended_found store = record {
+  entries = no_hits;
+  listed = record { own = HaveOwnIds-none HistoryRecord (λ h. h.id); same = λ h. (λ among. absurd (let below = among.1 in omega arith), λ shown. absurd (none_in_nothing shown.0 shown.1.created.among)) };
+  answer = none_are_shown (codes "ls") no_hits refl;
+}
+
+abbrev created_or : HistoryRecord → Option Payload → HistoryRecord
+created_or other (Some (HistoryCreate h)) = h
+created_or other _ = other
+
+module _ (store : KeyedStore) (r : SealedRecord) (opened : store.opens r ≡ Some (HistoryCreate ls_ended)) where
+  only_command : (h : HistoryRecord) → ShowsHistory store.opens (r ∷ []) h → ls_ended ≡ h
+  only_command h shown = ap (created_or ls_ended) (sym (opens_so store r opened shown.0 shown.1.created.among) ∙ shown.1.created.opened)
+
+  is_listed : (h : HistoryRecord) → Contains (ls_ended ∷ []) h → ShowsHistory store.opens (r ∷ []) h
+  is_listed h among = elim (Has-from_Contains (ls_ended ∷ []) h among) [
+    | inl here ↦ subst (ShowsHistory store.opens (r ∷ [])) here (command_shown store r opened)
+    | inr later ↦ absurd later
+  ]
+
+  found_of_one : (asked : ScopedQuery) (page : List HistoryRecord) → IsScopedAnswer asked (ls_ended ∷ []) page → SearchAnswer store.opens (r ∷ []) asked page
+  found_of_one asked page answer = record {
+    entries = ls_ended ∷ [];
+    listed = record { own = HaveOwnIds-more HistoryRecord (λ h. h.id) [] ls_ended (HaveOwnIds-none HistoryRecord (λ h. h.id)) refl; same = λ h. (is_listed h, λ shown. Contains-from_Has (ls_ended ∷ []) h (inl (only_command h shown))) };
+    answer = answer;
+  }
+
+-- one command is in order, whatever the page shows of it
+one_in_order : (offset : ℕ) (page : List HistoryRecord) → IsPage hit_bytes 100 (drop offset (ls_ended ∷ [])) page → IsScopedAnswer (search_for (codes "ls") offset) (ls_ended ∷ []) page
+one_in_order offset page cut = record { in_order = ls_ended ∷ []; found = IsPermutation-refl (ls_ended ∷ []); sorted = λ k d low high. absurd (omega arith); cut = cut }
+
+run_of : (store : KeyedStore) (drawn : List ℕ) → OfExample store → length drawn ≡ 106 → store.opens (end_record store drawn) ≡ Some (HistoryCreate ls_ended) → RunOf store drawn
+run_of store drawn of_example many opened = record {
+  starts = step_turn (ls_entry ∷ []) (began first_id) refl (ls_starts store) (record { journal_is = refl; doubt_is = refl; reply_is = refl });
+  none_ended = read_turn (hits no_hits) refl (shows_hits (search_for (codes "ls") 0) no_hits refl (none_ended_found store) refl) (record { journal_is = refl; doubt_is = refl; reply_is = refl });
+  ends = step_turn (ls_entry ∷ end_entry store drawn ∷ []) (stored 0) refl (ls_ends store drawn (call_of 2) of_example many) (record { journal_is = refl; doubt_is = refl; reply_is = refl });
+  is_found = read_turn (hits (ls_ended ∷ [])) refl (shows_hits (search_for (codes "ls") 0) (ls_ended ∷ []) refl (found_of_one store (end_record store drawn) opened (search_for (codes "ls") 0) (ls_ended ∷ []) (one_in_order 0 (ls_ended ∷ []) (whole_page 100 (ls_ended ∷ []) (omega arith, inl (omega arith))))) refl) (record { journal_is = refl; doubt_is = refl; reply_is = refl });
+  other_text = read_turn (hits no_hits) refl (shows_hits (search_for (codes "pwd") 0) no_hits refl (found_of_one store (end_record store drawn) opened (search_for (codes "pwd") 0) no_hits (none_are_shown (codes "pwd") (ls_ended ∷ []) refl)) refl) (record { journal_is = refl; doubt_is = refl; reply_is = refl });
+  no_second = read_turn (hits no_hits) refl (shows_hits (search_for (codes "ls") 1) no_hits refl (found_of_one store (end_record store drawn) opened (search_for (codes "ls") 1) no_hits (one_in_order 1 no_hits (whole_page 100 no_hits (omega arith, inl (omega arith))))) refl) (record { journal_is = refl; doubt_is = refl; reply_is = refl });
+}
+
+pub run : WorkedRun
+run = record { at_store = run_of; at_zeros = λ drawn many. run_of zeros_store drawn a_store.of_example many (a_store.opens_end drawn) }
 
 pub asked : WorkedAsked
 asked = record {

@@ -12,7 +12,7 @@ use Rattle.record_rules.specs.Examples.{kv_record, placed_record}
 use Rattle.view_rules.specs.Views.{OpensByTag}
 use Rattle.view_rules.specs.Answers.{Scope, of_all, of_hostname, of_session, of_cwd}
 use Rattle.step_rules.specs.Calls.{Call, start_call, end_call, delete_call, search_call, kv_set_call, kv_get_call, kv_list_call, alias_set_call, alias_delete_call, alias_list_call, status_call, long_text, call_bytes, CallFits}
-use Rattle.step_rules.specs.Answers.{too_long, unknown_id, unknown_name, full, random_fault, id_taken, disk_fault, no_memory, began, stored, value_is, places, refused}
+use Rattle.step_rules.specs.Answers.{too_long, unknown_id, unknown_name, full, random_fault, id_taken, disk_fault, no_memory, began, stored, hits, value_is, places, refused}
 use Rattle.step_rules.specs.Store.{Head, Seal, KeyedStore, payload_text_bytes, SealsWell}
 use Rattle.step_rules.specs.Step.{start_draft, record_draft, Drafts, draft_place, next_head, draft_answer, Step}
 use Rattle.step_rules.specs.Turn.{UsedSome, Turn}
@@ -36,6 +36,16 @@ ten_bytes = 0 ∷ 1 ∷ 2 ∷ 3 ∷ 4 ∷ 5 ∷ 6 ∷ 7 ∷ 8 ∷ 9 ∷ []
 abbrev pub first_id : ℕ
 first_id = 0x018bcfe5680070018203040506070809
 
+abbrev pub third_time : ℕ
+third_time = 1700000002000000000
+
+-- the random bytes 0a to 13, and the id that they and the third time make
+abbrev pub other_bytes : List ℕ
+other_bytes = 10 ∷ 11 ∷ 12 ∷ 13 ∷ 14 ∷ 15 ∷ 16 ∷ 17 ∷ 18 ∷ 19 ∷ []
+
+abbrev pub other_id : ℕ
+other_id = 0x018bcfe56fd07a0b8c0d0e0f10111213
+
 abbrev pub call_of : ℕ → Caller
 call_of number = record { number = 1; call = number; settled_for = 0 }
 
@@ -47,6 +57,10 @@ ls = record { id = first_id; timestamp = first_time; command = codes "ls"; cwd =
 
 abbrev pub ls_entry : Entry
 ls_entry = record { caller = call_of 1; event = Started ls }
+
+-- the same command, started again by the third call
+abbrev pub other_entry : Entry
+other_entry = record { caller = call_of 3; event = Started (record { id = other_id; timestamp = third_time; command = codes "ls"; cwd = codes "/"; session = codes "s1"; hostname = codes "h:u" }) }
 
 abbrev pub ls_ended : HistoryRecord
 ls_ended = record { id = first_id; timestamp = first_time; duration = pos 1000; exit = pos 0; command = codes "ls"; cwd = codes "/"; session = codes "s1"; hostname = codes "h:u"; deleted_at = None }
@@ -113,9 +127,8 @@ pub record WorkedCommand : Type 0 where
   pub end_taken : (store : KeyedStore) (drawn : List ℕ) (r : SealedRecord) → OfExample store → length drawn ≡ 106 → r.id ≡ end_id drawn → Step store (ls_entry ∷ record { caller = call_of 2; event = Taken 5 r } ∷ []) (call_of 3) (end_call first_id (pos 1000) (pos 0)) (read_and_drew second_time drawn) (ls_entry ∷ record { caller = call_of 2; event = Taken 5 r } ∷ []) (refused (id_taken (end_id drawn)))
   -- where the owner is full nothing is drawn
   pub is_full : (store : KeyedStore) (journal : List Entry) → fits journal 0 136 None ≡ Some (record { what = 1; held = 4000000 }) → Step store journal (call_of 1) ls_call (read_clock first_time) journal (refused (full (record { what = 1; held = 4000000 })))
-  -- an id that never ran, and the front of the start after it
+  -- an id that never ran
   pub never_ran : (store : KeyedStore) → Step store [] (call_of 1) (end_call (2 ^ 128 - 1) (pos 0) (pos 0)) (read_clock first_time) [] (refused (unknown_id (2 ^ 128 - 1)))
-  pub starts_at_one : (store : KeyedStore) → Turn store [] [] (call_of 1) ls_call (read_and_drew first_time ten_bytes) (ls_entry ∷ []) [] (record { front = 1; answer = began first_id })
 
 -- texts at their limits, and one byte above
 pub record WorkedTexts : Type 0 where
@@ -152,6 +165,9 @@ pub record WorkedDrafts : Type 0 where
   -- the command that is shown, and none of another id
   pub deletes : (store : KeyedStore) (r : SealedRecord) → store.opens r ≡ Some (HistoryCreate ls_ended) → Drafts store (record { caller = call_of 1; event = Local None r } ∷ []) (delete_call first_id) (record_draft None (HistoryDelete first_id))
   pub no_command : (store : KeyedStore) (r : SealedRecord) → store.opens r ≡ Some (HistoryCreate ls_ended) → Step store (record { caller = call_of 1; event = Local None r } ∷ []) (call_of 2) (delete_call 7) (read_clock first_time) (record { caller = call_of 1; event = Local None r } ∷ []) (refused (unknown_id 7))
+  -- nor one that is still running, nor one that was deleted
+  pub runs_still : (store : KeyedStore) → Step store (ls_entry ∷ []) (call_of 2) (delete_call first_id) (read_clock second_time) (ls_entry ∷ []) (refused (unknown_id first_id))
+  pub deleted_before : (store : KeyedStore) (r s : SealedRecord) → store.opens s ≡ Some (HistoryDelete first_id) → Step store (record { caller = call_of 1; event = Local None r } ∷ record { caller = call_of 2; event = Local None s } ∷ []) (call_of 3) (delete_call first_id) (read_clock first_time) (record { caller = call_of 1; event = Local None r } ∷ record { caller = call_of 2; event = Local None s } ∷ []) (refused (unknown_id first_id))
   -- the name that stands for a value, and no other one
   pub deletes_alias : (store : KeyedStore) (r : SealedRecord) → store.opens r ≡ Some (AliasSet (codes "g") (codes "v")) → Drafts store (record { caller = call_of 1; event = Local None r } ∷ []) (alias_delete_call (codes "g")) (record_draft None (AliasDelete (codes "g")))
   pub no_name : (store : KeyedStore) (r : SealedRecord) → store.opens r ≡ Some (AliasSet (codes "g") (codes "v")) → Step store (record { caller = call_of 1; event = Local None r } ∷ []) (call_of 2) (alias_delete_call (codes "v")) (read_clock first_time) (record { caller = call_of 1; event = Local None r } ∷ []) (refused (unknown_name (codes "v")))
@@ -164,6 +180,22 @@ pub record WorkedDrafts : Type 0 where
 -- a search for this text, in a scope
 abbrev pub search_of : (scope : Scope) (text : List ℕ) (offset limit : ℕ) → Call
 search_of scope text offset limit = search_call (record { scope = scope; unique = false; query = record { mode = by_prefix; text = text; offset = offset; limit = limit } })
+
+-- a command that is started, ended and found, reply by reply
+pub record RunOf (store : KeyedStore) (drawn : List ℕ) : Type 0 where
+  pub starts : Turn store [] [] (call_of 1) ls_call (read_and_drew first_time ten_bytes) (ls_entry ∷ []) [] (record { front = 1; answer = began first_id })
+  -- until it has ended it isn't found
+  pub none_ended : Turn store (ls_entry ∷ []) [] (call_of 2) (search_of of_all (codes "ls") 0 100) used_nothing (ls_entry ∷ []) [] (record { front = 1; answer = hits [] })
+  pub ends : Turn store (ls_entry ∷ []) [] (call_of 2) (end_call first_id (pos 1000) (pos 0)) (read_and_drew second_time drawn) (ls_entry ∷ end_entry store drawn ∷ []) [] (record { front = 2; answer = stored 0 })
+  pub is_found : Turn store (ls_entry ∷ end_entry store drawn ∷ []) [] (call_of 3) (search_of of_all (codes "ls") 0 100) used_nothing (ls_entry ∷ end_entry store drawn ∷ []) [] (record { front = 2; answer = hits (ls_ended ∷ []) })
+  -- another text isn't found, nor a second hit
+  pub other_text : Turn store (ls_entry ∷ end_entry store drawn ∷ []) [] (call_of 3) (search_of of_all (codes "pwd") 0 100) used_nothing (ls_entry ∷ end_entry store drawn ∷ []) [] (record { front = 2; answer = hits [] })
+  pub no_second : Turn store (ls_entry ∷ end_entry store drawn ∷ []) [] (call_of 3) (search_of of_all (codes "ls") 1 100) used_nothing (ls_entry ∷ end_entry store drawn ∷ []) [] (record { front = 2; answer = hits [] })
+
+-- at a store whose key opens the end's record, with whichever bytes are drawn for it; the store of zeros is one
+pub record WorkedRun : Type 0 where
+  pub at_store : (store : KeyedStore) (drawn : List ℕ) → OfExample store → length drawn ≡ 106 → store.opens (end_record store drawn) ≡ Some (HistoryCreate ls_ended) → RunOf store drawn
+  pub at_zeros : (drawn : List ℕ) → length drawn ≡ 106 → RunOf zeros_store drawn
 
 -- what a store may be asked, at each bound and past it
 pub record WorkedAsked : Type 0 where
@@ -217,12 +249,15 @@ pub record WorkedDoubt : Type 0 where
   pub not_shown : (store : KeyedStore) (drawn : List ℕ) → Turn store (ls_entry ∷ []) (end_entry store drawn ∷ []) (call_of 3) status_call used_nothing (ls_entry ∷ []) (end_entry store drawn ∷ []) (record { front = 1; answer = places [] })
   -- the next call that writes settles it, even where it is refused itself, and is answered behind it
   pub is_settled : (store : KeyedStore) (drawn : List ℕ) → SealsWell store → OfExample store → length drawn ≡ 106 → Turn store (ls_entry ∷ []) (end_entry store drawn ∷ []) (call_of 3) ls_call (read_and_drew first_time ten_bytes) (ls_entry ∷ end_settled store drawn ∷ []) [] (record { front = 2; answer = refused (id_taken first_id) })
+  -- or appends behind both
+  pub then_starts : (store : KeyedStore) (drawn : List ℕ) → SealsWell store → OfExample store → length drawn ≡ 106 → Turn store (ls_entry ∷ []) (end_entry store drawn ∷ []) (call_of 3) ls_call (read_and_drew third_time other_bytes) (ls_entry ∷ end_settled store drawn ∷ other_entry ∷ []) [] (record { front = 3; answer = began other_id })
   pub then_shown : (store : KeyedStore) (drawn : List ℕ) → OfExample store → Turn store (ls_entry ∷ end_settled store drawn ∷ []) [] (call_of 4) status_call used_nothing (ls_entry ∷ end_settled store drawn ∷ []) [] (record { front = 2; answer = places (record { host = 1; tag = history_tag; count = 1 } ∷ []) })
+  pub shown_behind : (store : KeyedStore) (drawn : List ℕ) → OfExample store → Turn store (ls_entry ∷ end_settled store drawn ∷ other_entry ∷ []) [] (call_of 4) status_call used_nothing (ls_entry ∷ end_settled store drawn ∷ other_entry ∷ []) [] (record { front = 3; answer = places (record { host = 1; tag = history_tag; count = 1 } ∷ []) })
   -- settling may fail itself, and so may the draw
   pub stays_in_doubt : (store : KeyedStore) (drawn : List ℕ) → Turn store (ls_entry ∷ []) (end_entry store drawn ∷ []) (call_of 3) ls_call (read_clock second_time) (ls_entry ∷ []) (end_entry store drawn ∷ []) (record { front = 1; answer = refused disk_fault })
   pub not_drawn : (store : KeyedStore) → Turn store [] [] (call_of 1) ls_call (read_and_failed first_time) [] [] (record { front = 0; answer = refused random_fault })
-  -- a lost end may come again
-  pub again : (store : KeyedStore) (drawn : List ℕ) → OfExample store → length drawn ≡ 106 → Turn store (ls_entry ∷ []) [] (call_of 2) (end_call first_id (pos 1000) (pos 0)) (read_and_drew second_time drawn) (ls_entry ∷ end_entry store drawn ∷ []) [] (record { front = 2; answer = stored 0 })
+  -- a lost end may come again, in the next call
+  pub again : (store : KeyedStore) (drawn : List ℕ) → OfExample store → length drawn ≡ 106 → Turn store (ls_entry ∷ []) [] (call_of 3) (end_call first_id (pos 1000) (pos 0)) (read_and_drew second_time drawn) (ls_entry ∷ record { caller = call_of 3; event = Local (Some first_id) (end_record store drawn) } ∷ []) [] (record { front = 2; answer = stored 0 })
   -- memory may be wanting: a read leaves what is in doubt, and a write may have settled it
   pub short_read : (store : KeyedStore) (drawn : List ℕ) → Turn store (ls_entry ∷ []) (end_entry store drawn ∷ []) (call_of 3) status_call used_nothing (ls_entry ∷ []) (end_entry store drawn ∷ []) (record { front = 1; answer = refused no_memory })
   pub short : (store : KeyedStore) (drawn : List ℕ) → Turn store (ls_entry ∷ []) (end_entry store drawn ∷ []) (call_of 3) ls_call (read_clock second_time) (ls_entry ∷ []) (end_entry store drawn ∷ []) (record { front = 1; answer = refused no_memory })

@@ -10,7 +10,7 @@
 #![tactic(auto)]
 
 ghost use Rattle.step_rules.specs.Laws.{StepKeepsSound, StepNumbersChains, StepAddsOne, RefusalLeaves, ReadLeaves, StepHasOutcome, WriteHasOneOutcome, StepHasOneOutcome, TurnKeepsSound, TurnTellsFront, TurnOnlyAdds, PageTurnKeepsSound, PageTurnOnlyAdds, ReadTurnLeaves};
-ghost use Rattle.step_rules.specs.Examples.{WorkedStore, WorkedCommand, WorkedTexts, WorkedViews, WorkedDrafts, WorkedAsked, WorkedDoubt, WorkedPageTurns, WorkedReadTurns};
+ghost use Rattle.step_rules.specs.Examples.{WorkedStore, WorkedCommand, WorkedTexts, WorkedViews, WorkedDrafts, WorkedRun, WorkedAsked, WorkedDoubt, WorkedPageTurns, WorkedReadTurns};
 
 /// A step from a sound journal leaves a sound journal.
 pub fn step_keeps_sound()
@@ -108,6 +108,11 @@ pub fn worked_views()
 /// What calls that set or delete are to append, worked out: what isn't there is not deleted.
 pub fn worked_drafts()
     ensures { WorkedDrafts }
+{}
+
+/// A command that is started, ended and found by a search, reply by reply.
+pub fn worked_run()
+    ensures { WorkedRun }
 {}
 
 /// What a store may be asked, at each bound and past it, and the bytes of the texts of each call.

@@ -4,21 +4,23 @@ use Rattle.std.specs.Prelude.{codes}
 use Rattle.std.proofs.lemmas.Bool.{true≢false}
 use Rattle.definitions.specs.Ids.{id_text, made_id}
 use Rattle.definitions.specs.Step.{used_nothing, read_and_drew}
+use Rattle.record_rules.specs.Growth.{PageGap}
+use Rattle.record_rules.specs.Examples.{kv_record}
 use Rattle.step_rules.specs.Answers.{stored, refused, disk_fault}
 use Rattle.step_rules.specs.Step.{start_draft, start_drafts, append_step}
-use Rattle.step_rules.specs.Turn.{is_refusal}
-use Rattle.step_rules.specs.Examples.{first_time, second_time, ten_bytes, ls_call}
-use Rattle.session_rules.specs.Sessions.{told_step, told_bad}
-use Rattle.session_rules.specs.Passes.{TurnItem, TurnsFor}
-use Rattle.session_rules.specs.Examples.{other_bytes, other_id, started_by, both, a_turn, another_turn, WorkedReplies, WorkedSessions, WorkedPass}
+use Rattle.step_rules.specs.PageTurns.{page_faulted}
+use Rattle.step_rules.specs.Examples.{first_time, second_time, ten_bytes, ls_call, two_records}
+use Rattle.session_rules.specs.Sessions.{SessionAnswer, to_call, to_page, told_step, told_bad, told_no_memory_for_bad, told_page, told_page_refused, told_page_disk_fault, told_page_no_memory}
+use Rattle.session_rules.specs.Passes.{TurnItem, tells_disk_fault, TurnsFor}
+use Rattle.session_rules.specs.Examples.{other_bytes, other_id, started_by, both, a_turn, another_turn, worker_batch, worker_journal, WorkedReplies, WorkedSessions, WorkedPages, WorkedPass}
 
 pub replies : WorkedReplies
 unfolding id_text
 replies = record { long_command = refl; never_ran = refl; no_alias = refl; is_full = refl; no_bytes = refl; id_held = refl; no_disk = refl; no_memory_left = refl; byte_behind = refl; one_begun = refl; first_stored = refl; one_hit = refl; a_value = refl; no_value = refl; two_keys = refl; one_alias = refl; one_place = refl }
 
 -- no other turn stands there, and it didn't fail
-same_turn : (turns : List TurnItem) → record { found = 1; left = 1; failed = false } ∷ [] ≡ turns → TurnsFor turns (record { front = 1; answer = refused disk_fault } ∷ []) → ⊥
-same_turn turns is told = let here = subst (λ t. TurnsFor t (record { front = 1; answer = refused disk_fault } ∷ [])) (sym is) told in true≢false (sym (here.1 refl))
+same_turn : (answer : SessionAnswer) (turns : List TurnItem) → tells_disk_fault answer ≡ true → record { found = 1; left = 1; failed = false } ∷ [] ≡ turns → TurnsFor turns (record { front = 1; answer = answer } ∷ []) → ⊥
+same_turn answer turns fault is told = let here = subst (λ t. TurnsFor t (record { front = 1; answer = answer } ∷ [])) (sym is) told in true≢false (sym (here.1 fault))
 
 pub sessions : WorkedSessions
 sessions = record {
@@ -37,7 +39,7 @@ sessions = record {
         commits_are = refl;
         behind = omega arith;
         within = omega arith;
-        told = told_step ls_call (started_by 2 other_id first_time ∷ []) refl refl (append_step second_time ten_bytes (start_draft (codes "ls") (codes "/") (codes "s1") (codes "h:u")) refl refl (record { short = refl; drafts = start_drafts _ _ _ _ refl refl; room = refl }) refl refl refl);
+        told = told_step ls_call (started_by 2 other_id first_time ∷ []) _ refl refl (append_step second_time ten_bytes (start_draft (codes "ls") (codes "/") (codes "s1") (codes "h:u")) refl refl (record { short = refl; drafts = start_drafts _ _ _ _ refl refl; room = refl }) refl refl refl) refl;
       },
       (refl, refl),
     );
@@ -57,7 +59,7 @@ sessions = record {
         commits_are = refl;
         behind = omega arith;
         within = omega arith;
-        told = told_step ls_call [] refl refl (append_step first_time other_bytes (start_draft (codes "ls") (codes "/") (codes "s1") (codes "h:u")) refl refl (record { short = refl; drafts = start_drafts _ _ _ _ refl refl; room = refl }) refl refl refl);
+        told = told_step ls_call [] _ refl refl (append_step first_time other_bytes (start_draft (codes "ls") (codes "/") (codes "s1") (codes "h:u")) refl refl (record { short = refl; drafts = start_drafts _ _ _ _ refl refl; room = refl }) refl refl refl) refl;
       },
       (refl, refl),
     );
@@ -69,13 +71,71 @@ sessions = record {
     own_are = refl;
     serves = (record { used_here = used_nothing; used_later = used_nothing; commit = []; commits_later = []; used_is = refl; commits_are = refl; behind = omega arith; within = omega arith; told = told_bad 14 refl refl refl refl }, (refl, refl));
   };
-  first_turns = (record { found = 1; left = 2; failed = false } ∷ [], refl, (refl, (λ other. absurd (true≢false (sym (ap is_refusal other)))), tt));
+  no_call_unheld = λ store. record {
+    since = [];
+    begins = refl;
+    commits = [];
+    own_are = refl;
+    serves = (record { used_here = used_nothing; used_later = used_nothing; commit = []; commits_later = []; used_is = refl; commits_are = refl; behind = omega arith; within = omega arith; told = told_no_memory_for_bad 14 refl refl refl refl }, (refl, refl));
+  };
+  first_turns = (record { found = 1; left = 2; failed = false } ∷ [], refl, (refl, (λ other. absurd (true≢false (sym other))), tt));
   failed_turn = (record { found = 1; left = 1; failed = true } ∷ [], refl, (refl, (λ told. refl), tt));
-  no_failed_turn = λ turns. same_turn turns.0 turns.1 turns.2;
+  no_failed_turn = λ turns. same_turn (to_call (refused disk_fault)) turns.0 refl turns.1 turns.2;
+  failed_page_turn = (record { found = 1; left = 1; failed = true } ∷ [], refl, (refl, (λ told. refl), tt));
+  no_failed_page_turn = λ turns. same_turn (to_page page_faulted) turns.0 refl turns.1 turns.2;
+}
+
+pub pages : WorkedPages
+pages = record {
+  session = λ store. record {
+    since = worker_journal;
+    begins = refl;
+    commits = worker_journal;
+    own_are = refl;
+    serves = (
+      record {
+        used_here = read_and_drew second_time ten_bytes;
+        used_later = used_nothing;
+        commit = started_by 1 (made_id second_time ten_bytes) second_time ∷ [];
+        commits_later = worker_batch;
+        used_is = refl;
+        commits_are = refl;
+        behind = omega arith;
+        within = omega arith;
+        told = told_step ls_call [] _ refl refl (append_step second_time ten_bytes (start_draft (codes "ls") (codes "/") (codes "s1") (codes "h:u")) refl refl (record { short = refl; drafts = start_drafts _ _ _ _ refl refl; room = refl }) refl refl refl) refl;
+      },
+      (
+        record {
+          used_here = used_nothing;
+          used_later = used_nothing;
+          commit = worker_batch;
+          commits_later = [];
+          used_is = refl;
+          commits_are = refl;
+          behind = omega arith;
+          within = omega arith;
+          told = told_page 5 two_records (started_by 1 (made_id second_time ten_bytes) second_time ∷ []) refl refl refl refl refl;
+        },
+        (
+          record { used_here = used_nothing; used_later = used_nothing; commit = []; commits_later = []; used_is = refl; commits_are = refl; behind = omega arith; within = omega arith; told = told_page 5 two_records worker_journal refl refl refl refl refl },
+          (
+            record { used_here = used_nothing; used_later = used_nothing; commit = []; commits_later = []; used_is = refl; commits_are = refl; behind = omega arith; within = omega arith; told = told_page_refused 5 (kv_record 3 1003 ∷ []) (PageGap 0 2) refl refl refl refl refl },
+            (
+              record { used_here = used_nothing; used_later = used_nothing; commit = []; commits_later = []; used_is = refl; commits_are = refl; behind = omega arith; within = omega arith; told = told_page_disk_fault 5 two_records refl refl refl refl },
+              (
+                record { used_here = used_nothing; used_later = used_nothing; commit = []; commits_later = []; used_is = refl; commits_are = refl; behind = omega arith; within = omega arith; told = told_page_no_memory 5 two_records refl refl refl refl },
+                (refl, refl),
+              ),
+            ),
+          ),
+        ),
+      ),
+    );
+  };
 }
 
 -- without turns there are no replies, and the other way round
-none_for_one : (turns : List TurnItem) → a_turn ∷ [] ≡ a_turn ∷ turns → TurnsFor turns (record { front = 3; answer = stored 0 } ∷ []) → ⊥
+none_for_one : (turns : List TurnItem) → a_turn ∷ [] ≡ a_turn ∷ turns → TurnsFor turns (record { front = 3; answer = to_call (stored 0) } ∷ []) → ⊥
 none_for_one [] is told = told
 none_for_one (turn ∷ turns) is told = let same : length (a_turn ∷ []) ≡ length (a_turn ∷ turn ∷ turns) = ap (λ (l : List TurnItem). length l) is in omega arith
 

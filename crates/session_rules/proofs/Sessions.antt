@@ -8,15 +8,15 @@ use Rattle.std.proofs.lemmas.List.{append-nil, take-append-le}
 use Rattle.std.proofs.lemmas.List.Elements.{filter-append}
 use Rattle.definitions.specs.Step.{Used}
 use Rattle.record_rules.specs.Records.{Entry}
+use Rattle.record_rules.specs.Growth.{grow}
 use Rattle.record_rules.proofs.Members.{Has}
 use Rattle.view_rules.proofs.Chains.{Has-from_Contains}
-use Rattle.step_rules.specs.Answers.{Reply}
 use Rattle.step_rules.specs.Store.{KeyedStore}
 use Rattle.step_rules.specs.Step.{Ready, Step}
-use Rattle.session_rules.specs.Sessions.{Asked, caller_of, Told, told_step, told_bad, told_disk_fault, told_random_fault, told_no_memory, told_no_memory_to_read, Serves, is_of, Session}
+use Rattle.session_rules.specs.Sessions.{Asked, SessionReply, caller_of, Told, told_step, told_disk_fault, told_random_fault, told_no_memory, told_no_memory_to_read, told_bad, told_no_memory_for_bad, told_page, told_page_refused, told_page_disk_fault, told_page_no_memory, Serves, is_of, Session}
 
 module _ (store : KeyedStore) (journal : List Entry) (number : ℕ) where
-  pub as_many : (from call : ℕ) (asked : List Asked) (used : Used) (replies : List Reply) (commits : List Entry) → Serves store journal number from call asked used replies commits → length asked ≡ length replies
+  pub as_many : (from call : ℕ) (asked : List Asked) (used : Used) (replies : List SessionReply) (commits : List Entry) → Serves store journal number from call asked used replies commits → length asked ≡ length replies
   as_many from call [] used [] commits serves = refl
   as_many from call (a ∷ more) used (reply ∷ replies) commits serves = let rest = as_many reply.front (call + 1) more serves.0.used_later replies serves.0.commits_later serves.1 in omega arith
   as_many from call [] used (reply ∷ replies) commits serves = absurd serves
@@ -24,18 +24,18 @@ module _ (store : KeyedStore) (journal : List Entry) (number : ℕ) where
 
   -- ---- what is told
 
-  pub record ToldAt (call : ℕ) (asked : Asked) (reply : Reply) : Type 0 where
+  pub record ToldAt (call : ℕ) (asked : Asked) (reply : SessionReply) : Type 0 where
     pub used : Used
     pub commit : List Entry
     pub told : Told store journal (caller_of number call) asked reply.front used reply.answer commit
 
-  pub told_at : (from call : ℕ) (asked : List Asked) (used : Used) (replies : List Reply) (commits : List Entry) (k : ℕ) (a : Asked) (reply : Reply) → Serves store journal number from call asked used replies commits → slice_get asked k ≡ Some a → slice_get replies k ≡ Some reply → ToldAt (call + k) a reply
+  pub told_at : (from call : ℕ) (asked : List Asked) (used : Used) (replies : List SessionReply) (commits : List Entry) (k : ℕ) (a : Asked) (reply : SessionReply) → Serves store journal number from call asked used replies commits → slice_get asked k ≡ Some a → slice_get replies k ≡ Some reply → ToldAt (call + k) a reply
   told_at from call [] used [] commits k a reply serves at_k told_k = absurd (none-some a at_k)
   told_at from call (b ∷ more) used (r ∷ replies) commits zero a reply serves at_k told_k =
       let same_asked : b ≡ a = same_Some b a at_k in
       let same_reply : r ≡ reply = same_Some r reply told_k in
       let here : ToldAt call b r = record { used = serves.0.used_here; commit = serves.0.commit; told = serves.0.told } in
-      subst (λ n. ToldAt n a reply) (omega arith) (subst (λ (x : Asked). ToldAt call x reply) same_asked (subst (λ (x : Reply). ToldAt call b x) same_reply here))
+      subst (λ n. ToldAt n a reply) (omega arith) (subst (λ (x : Asked). ToldAt call x reply) same_asked (subst (λ (x : SessionReply). ToldAt call b x) same_reply here))
   told_at from call (b ∷ more) used (r ∷ replies) commits (suc k) a reply serves at_k told_k =
       let later = told_at r.front (call + 1) more serves.0.used_later replies serves.0.commits_later k a reply serves.1 at_k told_k in
       subst (λ n. ToldAt n a reply) (omega arith) later
@@ -44,12 +44,12 @@ module _ (store : KeyedStore) (journal : List Entry) (number : ℕ) where
 
   -- ---- where
 
-  pub fronts_behind : (from call : ℕ) (asked : List Asked) (used : Used) (replies : List Reply) (commits : List Entry) (k : ℕ) (s : Reply) → Serves store journal number from call asked used replies commits → slice_get replies k ≡ Some s → (from ≤ s.front) × (s.front ≤ length journal)
+  pub fronts_behind : (from call : ℕ) (asked : List Asked) (used : Used) (replies : List SessionReply) (commits : List Entry) (k : ℕ) (s : SessionReply) → Serves store journal number from call asked used replies commits → slice_get replies k ≡ Some s → (from ≤ s.front) × (s.front ≤ length journal)
   fronts_behind from call [] used [] commits k s serves at = absurd (none-some s at)
   fronts_behind from call (a ∷ more) used (r ∷ replies) commits zero s serves at =
       let same : r ≡ s = same_Some r s at in
       let behind : from + length serves.0.commit ≤ r.front = serves.0.behind in
-      subst (λ (x : Reply). (from ≤ x.front) × (x.front ≤ length journal)) same (omega arith, serves.0.within)
+      subst (λ (x : SessionReply). (from ≤ x.front) × (x.front ≤ length journal)) same (omega arith, serves.0.within)
   fronts_behind from call (a ∷ more) used (r ∷ replies) commits (suc k) s serves at =
       let later = fronts_behind r.front (call + 1) more serves.0.used_later replies serves.0.commits_later k s serves.1 at in
       let behind : from + length serves.0.commit ≤ r.front = serves.0.behind in
@@ -58,12 +58,12 @@ module _ (store : KeyedStore) (journal : List Entry) (number : ℕ) where
   fronts_behind from call [] used (r ∷ replies) commits k s serves at = absurd serves
   fronts_behind from call (a ∷ more) used [] commits k s serves at = absurd (none-some s at)
 
-  pub fronts_rise : (from call : ℕ) (asked : List Asked) (used : Used) (replies : List Reply) (commits : List Entry) (i k : ℕ) (r s : Reply) → Serves store journal number from call asked used replies commits → i ≤ k → slice_get replies i ≡ Some r → slice_get replies k ≡ Some s → r.front ≤ s.front
+  pub fronts_rise : (from call : ℕ) (asked : List Asked) (used : Used) (replies : List SessionReply) (commits : List Entry) (i k : ℕ) (r s : SessionReply) → Serves store journal number from call asked used replies commits → i ≤ k → slice_get replies i ≡ Some r → slice_get replies k ≡ Some s → r.front ≤ s.front
   fronts_rise from call [] used [] commits i k r s serves below at_i at_k = absurd (none-some s at_k)
-  fronts_rise from call (a ∷ more) used (x ∷ replies) commits zero zero r s serves below at_i at_k = let same : r ≡ s = sym (same_Some x r at_i) ∙ same_Some x s at_k in subst (λ (y : Reply). r.front ≤ y.front) same (omega arith)
+  fronts_rise from call (a ∷ more) used (x ∷ replies) commits zero zero r s serves below at_i at_k = let same : r ≡ s = sym (same_Some x r at_i) ∙ same_Some x s at_k in subst (λ (y : SessionReply). r.front ≤ y.front) same (omega arith)
   fronts_rise from call (a ∷ more) used (x ∷ replies) commits zero (suc k) r s serves below at_i at_k =
       let later = fronts_behind x.front (call + 1) more serves.0.used_later replies serves.0.commits_later k s serves.1 at_k in
-      subst (λ (y : Reply). y.front ≤ s.front) (same_Some x r at_i) later.0
+      subst (λ (y : SessionReply). y.front ≤ s.front) (same_Some x r at_i) later.0
   fronts_rise from call (a ∷ more) used (x ∷ replies) commits (suc i) zero r s serves below at_i at_k = absurd (omega arith)
   fronts_rise from call (a ∷ more) used (x ∷ replies) commits (suc i) (suc k) r s serves below at_i at_k = fronts_rise x.front (call + 1) more serves.0.used_later replies serves.0.commits_later i k r s serves.1 (omega arith) at_i at_k
   fronts_rise from call [] used (x ∷ replies) commits i k r s serves below at_i at_k = absurd serves
@@ -72,10 +72,10 @@ module _ (store : KeyedStore) (journal : List Entry) (number : ℕ) where
   -- ---- entries behind
 
   module _ (added : List Entry) where
-    told_still : (call : ℕ) (asked : Asked) (reply : Reply) (used : Used) (commit : List Entry) → reply.front ≤ length journal → Told store journal (caller_of number call) asked reply.front used reply.answer commit → Told store (journal ++ added) (caller_of number call) asked reply.front used reply.answer commit
-    told_still call asked reply used commit within (told_step c before is parts step) =
+    told_still : (call : ℕ) (asked : Asked) (reply : SessionReply) (used : Used) (commit : List Entry) → reply.front ≤ length journal → Told store journal (caller_of number call) asked reply.front used reply.answer commit → Told store (journal ++ added) (caller_of number call) asked reply.front used reply.answer commit
+    told_still call asked reply used commit within (told_step c before given is parts step a) =
         let same : take reply.front (journal ++ added) ≡ take reply.front journal = take-append-le reply.front journal added within in
-        told_step c before is (same ∙ parts) (subst (λ j. Step store before (caller_of number call) c used j reply.answer) (sym same) step)
+        told_step c before given is (same ∙ parts) (subst (λ j. Step store before (caller_of number call) c used j given) (sym same) step) a
     told_still call asked reply used commit within (told_bad place is u a c) = told_bad place is u a c
     told_still call asked reply used commit within (told_disk_fault c is w u a n) = told_disk_fault c is w u a n
     told_still call asked reply used commit within (told_random_fault c draft now is ready u a n) =
@@ -83,8 +83,14 @@ module _ (store : KeyedStore) (journal : List Entry) (number : ℕ) where
         told_random_fault c draft now is (subst (λ j. Ready store j c draft) (sym same) ready) u a n
     told_still call asked reply used commit within (told_no_memory c is w u a n) = told_no_memory c is w u a n
     told_still call asked reply used commit within (told_no_memory_to_read c is w u a n) = told_no_memory_to_read c is w u a n
+    told_still call asked reply used commit within (told_no_memory_for_bad place is u a c) = told_no_memory_for_bad place is u a c
+    told_still call asked reply used commit within (told_page owner records before is parts grows u a) = told_page owner records before is (take-append-le reply.front journal added within ∙ parts) grows u a
+    told_still call asked reply used commit within (told_page_refused owner records refusal is grows u a n) =
+        told_page_refused owner records refusal is (ap (λ j. grow j (caller_of number call) owner records) (take-append-le reply.front journal added within) ∙ grows) u a n
+    told_still call asked reply used commit within (told_page_disk_fault owner records is u a n) = told_page_disk_fault owner records is u a n
+    told_still call asked reply used commit within (told_page_no_memory owner records is u a n) = told_page_no_memory owner records is u a n
 
-    pub serves_still : (from call : ℕ) (asked : List Asked) (used : Used) (replies : List Reply) (commits : List Entry) → Serves store journal number from call asked used replies commits → Serves store (journal ++ added) number from call asked used replies commits
+    pub serves_still : (from call : ℕ) (asked : List Asked) (used : Used) (replies : List SessionReply) (commits : List Entry) → Serves store journal number from call asked used replies commits → Serves store (journal ++ added) number from call asked used replies commits
     serves_still from call [] used [] commits serves = serves
     serves_still from call (a ∷ more) used (r ∷ replies) commits serves =
         let one = serves.0 in
@@ -111,7 +117,7 @@ none_kept number [] others = refl
 none_kept number (entry ∷ more) others =
     ap (λ b. cond b (entry ∷ filter (is_of number) more) (filter (is_of number) more)) (others 0 entry (omega arith)) ∙ none_kept number more (λ k d below. others (suc k) d (omega arith))
 
-pub session_still : (store : KeyedStore) (seen : List Entry) (number : ℕ) (asked : List Asked) (used : Used) (replies : List Reply) (journal more : List Entry) → Session store seen number asked used replies journal → All (λ entry. is_of number entry ≡ false) more → Session store seen number asked used replies (journal ++ more)
+pub session_still : (store : KeyedStore) (seen : List Entry) (number : ℕ) (asked : List Asked) (used : Used) (replies : List SessionReply) (journal more : List Entry) → Session store seen number asked used replies journal → All (λ entry. is_of number entry ≡ false) more → Session store seen number asked used replies (journal ++ more)
 session_still store seen number asked used replies journal more session others = record {
   since = session.since ++ more;
   begins = ap (λ j. j ++ more) session.begins ∙ append_assoc seen session.since more;
@@ -135,6 +141,6 @@ kept_passes number (e ∷ entries) entry has =
       | inr other ↦ rest (subst (λ b. Has (cond b (e ∷ filter (is_of number) entries) (filter (is_of number) entries)) entry) other has)
     ]
 
-pub commit_is_own : (store : KeyedStore) (seen : List Entry) (number : ℕ) (asked : List Asked) (used : Used) (replies : List Reply) (journal : List Entry) (entry : Entry) (session : Session store seen number asked used replies journal) → Contains session.commits entry → entry.caller.number ≡ number
+pub commit_is_own : (store : KeyedStore) (seen : List Entry) (number : ℕ) (asked : List Asked) (used : Used) (replies : List SessionReply) (journal : List Entry) (entry : Entry) (session : Session store seen number asked used replies journal) → Contains session.commits entry → entry.caller.number ≡ number
 commit_is_own store seen number asked used replies journal entry session among =
     kept_passes number session.since entry (Has-from_Contains (filter (is_of number) session.since) entry (subst (λ entries. Contains entries entry) (sym session.own_are) among))

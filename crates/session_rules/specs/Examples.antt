@@ -3,11 +3,14 @@ use Rattle.std.specs.Prelude.{◌≡◌, ℕ, ◌-◌, ◌^◌, pos, negsuc, Lis
 use Rattle.definitions.specs.Ids.{made_id}
 use Rattle.definitions.specs.Step.{used_nothing, read_and_drew}
 use Rattle.record_rules.specs.Records.{Caller, Entry, Started}
+use Rattle.record_rules.specs.Growth.{PageGap, taken_entry}
+use Rattle.record_rules.specs.Examples.{kv_record}
 use Rattle.step_rules.specs.Answers.{too_long, unknown_id, unknown_name, full, random_fault, id_taken, disk_fault, no_memory, bad_request, began, stored, hits, value_is, keys, aliases, places, refused}
 use Rattle.step_rules.specs.Store.{KeyedStore}
-use Rattle.step_rules.specs.Examples.{first_time, second_time, ten_bytes, ls_call}
+use Rattle.step_rules.specs.PageTurns.{took, page_refused, page_faulted, page_unheld}
+use Rattle.step_rules.specs.Examples.{first_time, second_time, ten_bytes, ls_call, two_records}
 use Rattle.session_rules.specs.Bytes.{reply_bytes}
-use Rattle.session_rules.specs.Sessions.{a_call, no_call, caller_of, Session}
+use Rattle.session_rules.specs.Sessions.{a_call, no_call, a_page, to_call, to_page, caller_of, Session}
 use Rattle.session_rules.specs.Passes.{TurnItem, Pass, mine, seen_more, KnowsItself, TurnsOf}
 
 pub record WorkedReplies : Type 0 where
@@ -49,15 +52,34 @@ abbrev pub both : List Entry
 both = started_by 2 other_id first_time ∷ started_by 1 (made_id second_time ten_bytes) second_time ∷ []
 
 pub record WorkedSessions : Type 0 where
-  pub first : (store : KeyedStore) → Session store [] 1 (a_call ls_call ∷ []) (read_and_drew second_time ten_bytes) (record { front = 2; answer = began (made_id second_time ten_bytes) } ∷ []) both
-  pub second : (store : KeyedStore) → Session store [] 2 (a_call ls_call ∷ []) (read_and_drew first_time other_bytes) (record { front = 1; answer = began other_id } ∷ []) both
+  pub first : (store : KeyedStore) → Session store [] 1 (a_call ls_call ∷ []) (read_and_drew second_time ten_bytes) (record { front = 2; answer = to_call (began (made_id second_time ten_bytes)) } ∷ []) both
+  pub second : (store : KeyedStore) → Session store [] 2 (a_call ls_call ∷ []) (read_and_drew first_time other_bytes) (record { front = 1; answer = to_call (began other_id) } ∷ []) both
   -- what is no call is told its place, and leaves the journal
-  pub no_call_told : (store : KeyedStore) → Session store [] 1 (no_call 14 ∷ []) used_nothing (record { front = 0; answer = refused (bad_request 14) } ∷ []) []
+  pub no_call_told : (store : KeyedStore) → Session store [] 1 (no_call 14 ∷ []) used_nothing (record { front = 0; answer = to_call (refused (bad_request 14)) } ∷ []) []
+  -- or that memory was wanting
+  pub no_call_unheld : (store : KeyedStore) → Session store [] 1 (no_call 14 ∷ []) used_nothing (record { front = 0; answer = to_call (refused no_memory) } ∷ []) []
   -- the turns of the first: it found one entry and left two
-  pub first_turns : TurnsOf [] (record { front = 2; answer = began (made_id second_time ten_bytes) } ∷ []) (record { found = 1; left = 2; failed = false } ∷ [])
+  pub first_turns : TurnsOf [] (record { front = 2; answer = to_call (began (made_id second_time ten_bytes)) } ∷ []) (record { found = 1; left = 2; failed = false } ∷ [])
   -- a fault of the disk is told after a turn that failed, and not after another one
-  pub failed_turn : TurnsOf [] (record { front = 1; answer = refused disk_fault } ∷ []) (record { found = 1; left = 1; failed = true } ∷ [])
-  pub no_failed_turn : TurnsOf [] (record { front = 1; answer = refused disk_fault } ∷ []) (record { found = 1; left = 1; failed = false } ∷ []) → ⊥
+  pub failed_turn : TurnsOf [] (record { front = 1; answer = to_call (refused disk_fault) } ∷ []) (record { found = 1; left = 1; failed = true } ∷ [])
+  pub no_failed_turn : TurnsOf [] (record { front = 1; answer = to_call (refused disk_fault) } ∷ []) (record { found = 1; left = 1; failed = false } ∷ []) → ⊥
+  pub failed_page_turn : TurnsOf [] (record { front = 1; answer = to_page page_faulted } ∷ []) (record { found = 1; left = 1; failed = true } ∷ [])
+  pub no_failed_page_turn : TurnsOf [] (record { front = 1; answer = to_page page_faulted } ∷ []) (record { found = 1; left = 1; failed = false } ∷ []) → ⊥
+
+-- ---- a session that takes in pages
+
+-- two records of owner 5, taken in the second call
+abbrev pub worker_batch : List Entry
+worker_batch = taken_entry (caller_of 1 2) 5 (kv_record 0 1000) ∷ taken_entry (caller_of 1 2) 5 (kv_record 1 1001) ∷ []
+
+abbrev pub worker_journal : List Entry
+worker_journal = started_by 1 (made_id second_time ten_bytes) second_time ∷ worker_batch
+
+pub record WorkedPages : Type 0 where
+  -- A Start and then five pages: one that is taken, the same again, one with a gap before it, and two that the disk and memory fail.
+  pub session : (store : KeyedStore) → Session store [] 1 (a_call ls_call ∷ a_page 5 two_records ∷ a_page 5 two_records ∷ a_page 5 (kv_record 3 1003 ∷ []) ∷ a_page 5 two_records ∷ a_page 5 two_records ∷ []) (read_and_drew second_time ten_bytes)
+      (record { front = 1; answer = to_call (began (made_id second_time ten_bytes)) } ∷ record { front = 3; answer = to_page (took 2) } ∷ record { front = 3; answer = to_page (took 0) } ∷ record { front = 3; answer = to_page (page_refused (PageGap 0 2)) } ∷ record { front = 3; answer = to_page page_faulted } ∷ record { front = 3; answer = to_page page_unheld } ∷ [])
+      worker_journal
 
 -- ---- a pass
 
@@ -95,6 +117,6 @@ pub record WorkedPass : Type 0 where
   pub knows : KnowsItself (record (pass_at []) { known = 1 })
   pub knows_not : KnowsItself (record (pass_at []) { known = 0 }) → ⊥
   -- one turn behind those before for each reply, and none without one
-  pub one_more_turn : TurnsOf (a_turn ∷ []) (record { front = 3; answer = stored 0 } ∷ []) (a_turn ∷ another_turn ∷ [])
-  pub no_turn : TurnsOf (a_turn ∷ []) (record { front = 3; answer = stored 0 } ∷ []) (a_turn ∷ []) → ⊥
+  pub one_more_turn : TurnsOf (a_turn ∷ []) (record { front = 3; answer = to_call (stored 0) } ∷ []) (a_turn ∷ another_turn ∷ [])
+  pub no_turn : TurnsOf (a_turn ∷ []) (record { front = 3; answer = to_call (stored 0) } ∷ []) (a_turn ∷ []) → ⊥
   pub no_reply : TurnsOf [] [] (a_turn ∷ []) → ⊥

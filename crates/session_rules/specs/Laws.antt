@@ -2,47 +2,54 @@
 use Rattle.std.specs.Prelude.{◌≡◌, ◌≢◌, ℕ, ◌+◌, ◌≤◌, List, [], ◌∷◌, ◌++◌, length, slice_get, All, false, Some}
 use Rattle.std.specs.List.{Contains, filter}
 use Rattle.definitions.specs.Step.{Used, used_nothing, then_used}
-use Rattle.record_rules.specs.Records.{Entry}
+use Rattle.record_rules.specs.Records.{SealedRecord, Entry}
 use Rattle.step_rules.specs.Calls.{Call}
 use Rattle.step_rules.specs.Answers.{Reply}
 use Rattle.step_rules.specs.Store.{KeyedStore}
 use Rattle.step_rules.specs.Turn.{Turn}
-use Rattle.session_rules.specs.Sessions.{Asked, a_call, caller_of, Told, is_of, Session}
+use Rattle.step_rules.specs.PageTurns.{PageAnswer, PageTurn}
+use Rattle.session_rules.specs.Sessions.{Asked, a_call, a_page, SessionReply, call_reply, page_reply, caller_of, Told, is_of, Session}
 use Rattle.session_rules.specs.Passes.{TurnItem, TurnsOf, Pass, mine, seen_more}
 
 -- each request gets one reply
 abbrev pub EachIsAnswered : Type 0
-EachIsAnswered = (store : KeyedStore) (seen : List Entry) (number : ℕ) (asked : List Asked) (used : Used) (replies : List Reply) (journal : List Entry) → Session store seen number asked used replies journal → length asked ≡ length replies
+EachIsAnswered = (store : KeyedStore) (seen : List Entry) (number : ℕ) (asked : List Asked) (used : Used) (replies : List SessionReply) (journal : List Entry) → Session store seen number asked used replies journal → length asked ≡ length replies
 
 -- Each reply is what its call is told at the point of the journal that the reply names, the front; the call has its place, from 1, as its number.
 abbrev pub RepliesAtPoints : Type 0
-RepliesAtPoints = (store : KeyedStore) (seen : List Entry) (number : ℕ) (asked : List Asked) (used : Used) (replies : List Reply) (journal : List Entry) (k : ℕ) (a : Asked) (reply : Reply) → Session store seen number asked used replies journal → slice_get asked k ≡ Some a → slice_get replies k ≡ Some reply
+RepliesAtPoints = (store : KeyedStore) (seen : List Entry) (number : ℕ) (asked : List Asked) (used : Used) (replies : List SessionReply) (journal : List Entry) (k : ℕ) (a : Asked) (reply : SessionReply) → Session store seen number asked used replies journal → slice_get asked k ≡ Some a → slice_get replies k ≡ Some reply
     → (used_here : Used) × (commit : List Entry) × Told store journal (caller_of number (k + 1)) a reply.front used_here reply.answer commit
 
 -- The points follow one another: no front lies before an earlier one, before what was seen at the opening, or behind the journal's end.
 abbrev pub PointsFollow : Type 0
-PointsFollow = (store : KeyedStore) (seen : List Entry) (number : ℕ) (asked : List Asked) (used : Used) (replies : List Reply) (journal : List Entry) (i k : ℕ) (r s : Reply) → Session store seen number asked used replies journal → i ≤ k → slice_get replies i ≡ Some r → slice_get replies k ≡ Some s
+PointsFollow = (store : KeyedStore) (seen : List Entry) (number : ℕ) (asked : List Asked) (used : Used) (replies : List SessionReply) (journal : List Entry) (i k : ℕ) (r s : SessionReply) → Session store seen number asked used replies journal → i ≤ k → slice_get replies i ≡ Some r → slice_get replies k ≡ Some s
     → (length seen ≤ r.front) × (r.front ≤ s.front) × (s.front ≤ length journal)
 
 -- a session's commits have its number
 abbrev pub CommitsAreOwn : Type 0
-CommitsAreOwn = (store : KeyedStore) (seen : List Entry) (number : ℕ) (asked : List Asked) (used : Used) (replies : List Reply) (journal : List Entry) (entry : Entry) → (session : Session store seen number asked used replies journal) → Contains session.commits entry → entry.caller.number ≡ number
+CommitsAreOwn = (store : KeyedStore) (seen : List Entry) (number : ℕ) (asked : List Asked) (used : Used) (replies : List SessionReply) (journal : List Entry) (entry : Entry) → (session : Session store seen number asked used replies journal) → Contains session.commits entry → entry.caller.number ≡ number
 
 -- so no entry of a journal is committed by two sessions of different numbers, whatever journals they saw
 abbrev pub SessionsDontOverlap : Type 0
-SessionsDontOverlap = (store other : KeyedStore) (seen seen_by : List Entry) (number other_number : ℕ) (asked asked_of : List Asked) (used used_by : Used) (replies replies_of : List Reply) (journal other_journal : List Entry) (entry : Entry)
+SessionsDontOverlap = (store other : KeyedStore) (seen seen_by : List Entry) (number other_number : ℕ) (asked asked_of : List Asked) (used used_by : Used) (replies replies_of : List SessionReply) (journal other_journal : List Entry) (entry : Entry)
     → (one : Session store seen number asked used replies journal) → (two : Session other seen_by other_number asked_of used_by replies_of other_journal) → number ≢ other_number → Contains one.commits entry → Contains two.commits entry → ⊥
 
 -- what others add behind leaves the session
 abbrev pub OthersLeaveIt : Type 0
-OthersLeaveIt = (store : KeyedStore) (seen : List Entry) (number : ℕ) (asked : List Asked) (used : Used) (replies : List Reply) (journal more : List Entry) → Session store seen number asked used replies journal → All (λ entry. is_of number entry ≡ false) more → Session store seen number asked used replies (journal ++ more)
+OthersLeaveIt = (store : KeyedStore) (seen : List Entry) (number : ℕ) (asked : List Asked) (used : Used) (replies : List SessionReply) (journal more : List Entry) → Session store seen number asked used replies journal → All (λ entry. is_of number entry ≡ false) more → Session store seen number asked used replies (journal ++ more)
 
 -- A turn at the journal, behind whatever others added, makes the session longer by that call, its reply and what it used. So sessions are what
 -- turns make, in whatever order the turns of several come.
 abbrev pub TurnMakesLonger : Type 0
-TurnMakesLonger = (store : KeyedStore) (seen : List Entry) (number : ℕ) (asked : List Asked) (used : Used) (replies : List Reply) (journal more doubt : List Entry) (call : Call) (used_here : Used) (after doubt_after : List Entry) (reply : Reply)
+TurnMakesLonger = (store : KeyedStore) (seen : List Entry) (number : ℕ) (asked : List Asked) (used : Used) (replies : List SessionReply) (journal more doubt : List Entry) (call : Call) (used_here : Used) (after doubt_after : List Entry) (reply : Reply)
     → number ≢ 0 → Session store seen number asked used replies journal → All (λ entry. is_of number entry ≡ false) more → Turn store (journal ++ more) doubt (caller_of number (length asked + 1)) call used_here after doubt_after reply
-    → Session store seen number (asked ++ a_call call ∷ []) (then_used used used_here) (replies ++ reply ∷ []) after
+    → Session store seen number (asked ++ a_call call ∷ []) (then_used used used_here) (replies ++ call_reply reply ∷ []) after
+
+-- so does a turn with a page, which uses neither clock nor random bytes
+abbrev pub PageTurnMakesLonger : Type 0
+PageTurnMakesLonger = (store : KeyedStore) (seen : List Entry) (number : ℕ) (asked : List Asked) (used : Used) (replies : List SessionReply) (journal more doubt : List Entry) (owner : ℕ) (records : List SealedRecord) (after doubt_after : List Entry) (answer : PageAnswer)
+    → number ≢ 0 → Session store seen number asked used replies journal → All (λ entry. is_of number entry ≡ false) more → PageTurn (journal ++ more) doubt (caller_of number (length asked + 1)) owner records after doubt_after answer
+    → Session store seen number (asked ++ a_page owner records ∷ []) used (replies ++ page_reply (length after) answer ∷ []) after
 
 -- a session begins with no request, at any journal
 abbrev pub SessionBegins : Type 0
@@ -50,7 +57,7 @@ SessionBegins = (store : KeyedStore) (seen : List Entry) (number : ℕ) → Sess
 
 -- the turns of two runs of replies, one after the other, are those of both
 abbrev pub TurnsFollow : Type 0
-TurnsFollow = (before between after : List TurnItem) (replies more : List Reply) → TurnsOf before replies between → TurnsOf between more after → TurnsOf before (replies ++ more) after
+TurnsFollow = (before between after : List TurnItem) (replies more : List SessionReply) → TurnsOf before replies between → TurnsOf between more after → TurnsOf before (replies ++ more) after
 
 -- what a pass has committed grows by the entries of its number among those that it sees
 abbrev pub PassGrowsByItsOwn : Type 0

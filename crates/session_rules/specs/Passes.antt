@@ -1,8 +1,9 @@
 -- A pass: what one of several callers has seen of a journal that they share by turns.
-use Rattle.std.specs.Prelude.{◌≡◌, ℕ, ◌≤◌, List, [], ◌∷◌, ◌++◌, filter, Bool, true}
+use Rattle.std.specs.Prelude.{◌≡◌, ℕ, ◌≤◌, List, [], ◌∷◌, ◌++◌, filter, Bool, true, false}
 use Rattle.record_rules.specs.Records.{Entry}
-use Rattle.step_rules.specs.Answers.{Reply, refused, disk_fault}
-use Rattle.session_rules.specs.Sessions.{is_of}
+use Rattle.step_rules.specs.Answers.{refused, disk_fault}
+use Rattle.step_rules.specs.PageTurns.{page_faulted}
+use Rattle.session_rules.specs.Sessions.{SessionAnswer, to_call, to_page, SessionReply, is_of}
 
 -- a turn that a pass gave back: how long the journal was when it was taken and when it was given, and whether a fault was counted between
 pub record TurnItem : Type 0 where
@@ -32,13 +33,19 @@ seen_more pass added = record pass { seen = pass.seen ++ added }
 abbrev pub KnowsItself : Pass → Type 0
 KnowsItself pass = pass.number ≤ pass.known
 
+-- a fault of the disk, told to a call or to a page
+abbrev pub tells_disk_fault : SessionAnswer → Bool
+tells_disk_fault (to_call (refused disk_fault)) = true
+tells_disk_fault (to_page page_faulted) = true
+tells_disk_fault _ = false
+
 -- One turn for each reply, in order: the front is what the turn left, and a fault of the disk is told only after a turn that failed.
-abbrev pub TurnsFor : List TurnItem → List Reply → Type 0
+abbrev pub TurnsFor : List TurnItem → List SessionReply → Type 0
 TurnsFor [] [] = Unit {0}
-TurnsFor (turn ∷ turns) (reply ∷ replies) = (reply.front ≡ turn.left) × (reply.answer ≡ refused disk_fault → turn.failed ≡ true) × TurnsFor turns replies
+TurnsFor (turn ∷ turns) (reply ∷ replies) = (reply.front ≡ turn.left) × (tells_disk_fault reply.answer ≡ true → turn.failed ≡ true) × TurnsFor turns replies
 TurnsFor [] (reply ∷ replies) = ⊥
 TurnsFor (turn ∷ turns) [] = ⊥
 
 -- the turns of a pass after these replies, given those before
-abbrev pub TurnsOf : List TurnItem → List Reply → List TurnItem → Type 0
+abbrev pub TurnsOf : List TurnItem → List SessionReply → List TurnItem → Type 0
 TurnsOf turns replies after = (added : List TurnItem) × (after ≡ turns ++ added) × TurnsFor added replies

@@ -1,37 +1,68 @@
 -- What a session was asked, and what it answered, each at a point of one journal. Other sessions' entries may stand between its own.
-use Rattle.std.specs.Prelude.{◌≡◌, ℕ, ◌+◌, ◌≤◌, List, [], ◌∷◌, ◌++◌, length, take, filter, Bool, true, false, ◌==◌}
+use Rattle.std.specs.Prelude.{◌≡◌, ℕ, ◌+◌, ◌≤◌, List, [], ◌∷◌, ◌++◌, length, take, filter, Bool, true, false, ◌==◌, Ok, Err}
 use Rattle.definitions.specs.Step.{Used, used_nothing, then_used, read_and_failed}
-use Rattle.record_rules.specs.Records.{Caller, Entry}
+use Rattle.record_rules.specs.Records.{SealedRecord, Caller, Entry}
+use Rattle.record_rules.specs.Growth.{PageRefusal, grow}
 use Rattle.step_rules.specs.Calls.{Call, is_read}
 use Rattle.step_rules.specs.Answers.{Answer, refused, random_fault, disk_fault, no_memory, bad_request, Reply}
 use Rattle.step_rules.specs.Store.{KeyedStore}
 use Rattle.step_rules.specs.Step.{Draft, Ready, Step}
 use Rattle.step_rules.specs.Turn.{UsedSome}
+use Rattle.step_rules.specs.PageTurns.{PageAnswer, took, page_refused, page_faulted, page_unheld}
 
--- a request: a call, or bytes that are none, with the place of the first wrong item
+-- a request: a call, or bytes that are none, with the place of the first wrong item, or a page of records for an owner
 pub data Asked : Type 0 where
   a_call : Call → Asked
   no_call : (place : ℕ) → Asked
+  a_page : (owner : ℕ) → List SealedRecord → Asked
+
+-- what a request is answered: as a call, which bytes that are none are too, or as a page
+pub data SessionAnswer : Type 0 where
+  to_call : Answer → SessionAnswer
+  to_page : PageAnswer → SessionAnswer
+
+-- an answer with the number of entries of the journal at which it was given
+pub record SessionReply : Type 0 where
+  pub front : ℕ
+  pub answer : SessionAnswer
+
+-- the replies to a call and to a page
+abbrev pub call_reply : Reply → SessionReply
+call_reply reply = record { front = reply.front; answer = to_call reply.answer }
+
+abbrev pub page_reply : (front : ℕ) → PageAnswer → SessionReply
+page_reply front answer = record { front = front; answer = to_page answer }
 
 -- the caller of the call of this number of a session
 abbrev pub caller_of : (number call : ℕ) → Caller
 caller_of number call = record { number = number; call = call; settled_for = 0 }
 
 -- The answer to one request at this front of the journal, what it used, and what it committed: the last entries before the front. Where
--- nothing was committed a fault, or want of memory, may be told in place of the step's answer.
-pub data Told (store : KeyedStore) (journal : List Entry) (caller : Caller) (asked : Asked) (front : ℕ) (used : Used) (answer : Answer) (commit : List Entry) : Type 0 where
+-- nothing was committed a fault, or want of memory, may be told in place of what the step or the growth gives.
+pub data Told (store : KeyedStore) (journal : List Entry) (caller : Caller) (asked : Asked) (front : ℕ) (used : Used) (answer : SessionAnswer) (commit : List Entry) : Type 0 where
   -- what the step gives from the journal before the commit to the journal at the front
-  told_step : (call : Call) (before : List Entry) → asked ≡ a_call call → take front journal ≡ before ++ commit → Step store before caller call used (take front journal) answer → Told store journal caller asked front used answer commit
-  told_bad : (place : ℕ) → asked ≡ no_call place → used ≡ used_nothing → answer ≡ refused (bad_request place) → commit ≡ [] → Told store journal caller asked front used answer commit
+  told_step : (call : Call) (before : List Entry) (given : Answer) → asked ≡ a_call call → take front journal ≡ before ++ commit → Step store before caller call used (take front journal) given → answer ≡ to_call given
+      → Told store journal caller asked front used answer commit
   -- a call that writes
-  told_disk_fault : (call : Call) → asked ≡ a_call call → is_read call ≡ false → UsedSome used → answer ≡ refused disk_fault → commit ≡ [] → Told store journal caller asked front used answer commit
+  told_disk_fault : (call : Call) → asked ≡ a_call call → is_read call ≡ false → UsedSome used → answer ≡ to_call (refused disk_fault) → commit ≡ [] → Told store journal caller asked front used answer commit
   -- where the step would have drawn
-  told_random_fault : (call : Call) (draft : Draft) (now : ℕ) → asked ≡ a_call call → Ready store (take front journal) call draft → used ≡ read_and_failed now → answer ≡ refused random_fault → commit ≡ [] → Told store journal caller asked front used answer commit
-  told_no_memory : (call : Call) → asked ≡ a_call call → is_read call ≡ false → UsedSome used → answer ≡ refused no_memory → commit ≡ [] → Told store journal caller asked front used answer commit
-  told_no_memory_to_read : (call : Call) → asked ≡ a_call call → is_read call ≡ true → used ≡ used_nothing → answer ≡ refused no_memory → commit ≡ [] → Told store journal caller asked front used answer commit
+  told_random_fault : (call : Call) (draft : Draft) (now : ℕ) → asked ≡ a_call call → Ready store (take front journal) call draft → used ≡ read_and_failed now → answer ≡ to_call (refused random_fault) → commit ≡ []
+      → Told store journal caller asked front used answer commit
+  told_no_memory : (call : Call) → asked ≡ a_call call → is_read call ≡ false → UsedSome used → answer ≡ to_call (refused no_memory) → commit ≡ [] → Told store journal caller asked front used answer commit
+  told_no_memory_to_read : (call : Call) → asked ≡ a_call call → is_read call ≡ true → used ≡ used_nothing → answer ≡ to_call (refused no_memory) → commit ≡ [] → Told store journal caller asked front used answer commit
+  -- what is no call
+  told_bad : (place : ℕ) → asked ≡ no_call place → used ≡ used_nothing → answer ≡ to_call (refused (bad_request place)) → commit ≡ [] → Told store journal caller asked front used answer commit
+  told_no_memory_for_bad : (place : ℕ) → asked ≡ no_call place → used ≡ used_nothing → answer ≡ to_call (refused no_memory) → commit ≡ [] → Told store journal caller asked front used answer commit
+  -- what the page adds to the journal before the commit, and why it is refused at the front; a page uses neither clock nor random bytes
+  told_page : (owner : ℕ) (records : List SealedRecord) (before : List Entry) → asked ≡ a_page owner records → take front journal ≡ before ++ commit → grow before caller owner records ≡ Ok commit → used ≡ used_nothing → answer ≡ to_page (took (length commit))
+      → Told store journal caller asked front used answer commit
+  told_page_refused : (owner : ℕ) (records : List SealedRecord) (refusal : PageRefusal) → asked ≡ a_page owner records → grow (take front journal) caller owner records ≡ Err refusal → used ≡ used_nothing → answer ≡ to_page (page_refused refusal) → commit ≡ []
+      → Told store journal caller asked front used answer commit
+  told_page_disk_fault : (owner : ℕ) (records : List SealedRecord) → asked ≡ a_page owner records → used ≡ used_nothing → answer ≡ to_page page_faulted → commit ≡ [] → Told store journal caller asked front used answer commit
+  told_page_no_memory : (owner : ℕ) (records : List SealedRecord) → asked ≡ a_page owner records → used ≡ used_nothing → answer ≡ to_page page_unheld → commit ≡ [] → Told store journal caller asked front used answer commit
 
 -- one reply: what was used and committed for it, within what was used and committed from here on
-pub record One (store : KeyedStore) (journal : List Entry) (number from call : ℕ) (asked : Asked) (used : Used) (reply : Reply) (commits : List Entry) : Type 0 where
+pub record One (store : KeyedStore) (journal : List Entry) (number from call : ℕ) (asked : Asked) (used : Used) (reply : SessionReply) (commits : List Entry) : Type 0 where
   pub used_here : Used
   pub used_later : Used
   pub commit : List Entry
@@ -45,7 +76,7 @@ pub record One (store : KeyedStore) (journal : List Entry) (number from call : �
 
 -- The replies to these requests, one after the other, each at a front between the one before, `from`, and the journal's end. The first
 -- request has this call number. These are what is used and committed in all.
-abbrev pub Serves : KeyedStore → List Entry → (number from call : ℕ) → List Asked → Used → List Reply → List Entry → Type 0
+abbrev pub Serves : KeyedStore → List Entry → (number from call : ℕ) → List Asked → Used → List SessionReply → List Entry → Type 0
 Serves store journal number from call [] used [] commits = (used ≡ used_nothing) × (commits ≡ [])
 Serves store journal number from call (asked ∷ more) used (reply ∷ replies) commits =
     (one : One store journal number from call asked used reply commits) × Serves store journal number reply.front (call + 1) more one.used_later replies one.commits_later
@@ -58,7 +89,7 @@ is_of number entry = entry.caller.number == number
 
 -- The session of this number: from all that was seen when it was opened, to the journal at its end. Of the entries since then those with its
 -- number are its commits, each once and in order.
-pub record Session (store : KeyedStore) (seen : List Entry) (number : ℕ) (asked : List Asked) (used : Used) (replies : List Reply) (journal : List Entry) : Type 0 where
+pub record Session (store : KeyedStore) (seen : List Entry) (number : ℕ) (asked : List Asked) (used : Used) (replies : List SessionReply) (journal : List Entry) : Type 0 where
   pub since : List Entry
   pub begins : journal ≡ seen ++ since
   pub commits : List Entry

@@ -7,8 +7,8 @@
 //! Each function has an empty body, and its contract is the law that its name says.
 #![tactic(auto)]
 
-ghost use Rattle.session_rules.specs.Laws.{EachIsAnswered, RepliesAtPoints, PointsFollow, CommitsAreOwn, SessionsDontOverlap, OthersLeaveIt, TurnMakesLonger, SessionBegins, TurnsFollow, PassGrowsByItsOwn};
-ghost use Rattle.session_rules.specs.Examples.{WorkedReplies, WorkedSessions, WorkedPass};
+ghost use Rattle.session_rules.specs.Laws.{EachIsAnswered, RepliesAtPoints, PointsFollow, CommitsAreOwn, SessionsDontOverlap, OthersLeaveIt, TurnMakesLonger, PageTurnMakesLonger, SessionBegins, TurnsFollow, PassGrowsByItsOwn};
+ghost use Rattle.session_rules.specs.Examples.{WorkedReplies, WorkedSessions, WorkedPages, WorkedPass};
 
 /// Each request of a session gets one reply.
 pub fn each_is_answered()
@@ -16,7 +16,7 @@ pub fn each_is_answered()
 {}
 
 /// Each reply is what its call is told at the point of the journal that the reply names: what the step
-/// gives there, or one of the four answers that may stand in its place.
+/// or the growth gives there, or one of the answers that may stand in its place.
 pub fn replies_at_points()
     ensures { RepliesAtPoints }
 {}
@@ -47,6 +47,11 @@ pub fn turn_makes_longer()
     ensures { TurnMakesLonger }
 {}
 
+/// So does a turn with a page: one session may be asked calls and pages, in any order.
+pub fn page_turn_makes_longer()
+    ensures { PageTurnMakesLonger }
+{}
+
 /// A session begins at any journal.
 pub fn session_begins()
     ensures { SessionBegins }
@@ -71,6 +76,11 @@ pub fn worked_replies()
 /// and the turns of a pass.
 pub fn worked_sessions()
     ensures { WorkedSessions }
+{}
+
+/// A session that is asked a call and pages, worked out.
+pub fn worked_pages()
+    ensures { WorkedPages }
 {}
 
 /// A pass, worked out: which entries are its own, and its turns.

@@ -10,9 +10,10 @@ use Rattle.step_rules.specs.Answers.{stored, refused, disk_fault}
 use Rattle.step_rules.specs.Step.{start_draft, start_drafts, append_step}
 use Rattle.step_rules.specs.PageTurns.{page_faulted}
 use Rattle.step_rules.specs.Examples.{first_time, second_time, ten_bytes, ls_call, two_records}
+use Rattle.request_rules.proofs.Examples.{calls, faults}
 use Rattle.session_rules.specs.Sessions.{SessionAnswer, to_call, to_page, told_step, told_bad, told_no_memory_for_bad, told_page, told_page_refused, told_page_disk_fault, told_page_no_memory}
 use Rattle.session_rules.specs.Passes.{TurnItem, tells_disk_fault, TurnsFor}
-use Rattle.session_rules.specs.Examples.{other_bytes, other_id, started_by, both, a_turn, another_turn, worker_batch, worker_journal, WorkedReplies, WorkedSessions, WorkedPages, WorkedPass}
+use Rattle.session_rules.specs.Examples.{other_bytes, other_id, started_by, both, a_turn, another_turn, worker_batch, worker_journal, WorkedReplies, WorkedSessions, WorkedPages, WorkedReading, WorkedPass}
 
 pub replies : WorkedReplies
 unfolding id_text
@@ -132,6 +133,15 @@ pages = record {
       ),
     );
   };
+}
+
+pub reading : WorkedReading
+reading = record {
+  a_status = calls.status;
+  byte_behind = faults.behind;
+  in_order = (calls.status, (faults.behind, tt));
+  no_page = λ owner records reads. reads;
+  one_each = λ reads. reads;
 }
 
 -- without turns there are no replies, and the other way round

@@ -2,15 +2,17 @@
 use Rattle.std.specs.Prelude.{◌≡◌, ℕ, ◌-◌, ◌^◌, pos, negsuc, List, [], ◌∷◌, ◌++◌, codes, Some, None, replicate, true, false}
 use Rattle.definitions.specs.Ids.{made_id}
 use Rattle.definitions.specs.Step.{used_nothing, read_and_drew}
-use Rattle.record_rules.specs.Records.{Caller, Entry, Started}
+use Rattle.record_rules.specs.Records.{SealedRecord, Caller, Entry, Started}
 use Rattle.record_rules.specs.Growth.{PageGap, taken_entry}
 use Rattle.record_rules.specs.Examples.{kv_record}
+use Rattle.step_rules.specs.Calls.{status_call}
 use Rattle.step_rules.specs.Answers.{too_long, unknown_id, unknown_name, full, random_fault, id_taken, disk_fault, no_memory, bad_request, began, stored, hits, value_is, keys, aliases, places, refused}
 use Rattle.step_rules.specs.Store.{KeyedStore}
 use Rattle.step_rules.specs.PageTurns.{took, page_refused, page_faulted, page_unheld}
 use Rattle.step_rules.specs.Examples.{first_time, second_time, ten_bytes, ls_call, two_records}
 use Rattle.session_rules.specs.Bytes.{reply_bytes}
 use Rattle.session_rules.specs.Sessions.{a_call, no_call, a_page, to_call, to_page, caller_of, Session}
+use Rattle.session_rules.specs.Reading.{Reads, ReadsEach}
 use Rattle.session_rules.specs.Passes.{TurnItem, Pass, mine, seen_more, KnowsItself, TurnsOf}
 
 pub record WorkedReplies : Type 0 where
@@ -80,6 +82,17 @@ pub record WorkedPages : Type 0 where
   pub session : (store : KeyedStore) → Session store [] 1 (a_call ls_call ∷ a_page 5 two_records ∷ a_page 5 two_records ∷ a_page 5 (kv_record 3 1003 ∷ []) ∷ a_page 5 two_records ∷ a_page 5 two_records ∷ []) (read_and_drew second_time ten_bytes)
       (record { front = 1; answer = to_call (began (made_id second_time ten_bytes)) } ∷ record { front = 3; answer = to_page (took 2) } ∷ record { front = 3; answer = to_page (took 0) } ∷ record { front = 3; answer = to_page (page_refused (PageGap 0 2)) } ∷ record { front = 3; answer = to_page page_faulted } ∷ record { front = 3; answer = to_page page_unheld } ∷ [])
       worker_journal
+
+-- ---- what is read of payloads
+
+pub record WorkedReading : Type 0 where
+  -- a Status, and one with a byte behind it, which is at place 2
+  pub a_status : Reads (0x91 ∷ 0x0b ∷ []) (a_call status_call)
+  pub byte_behind : Reads (0x91 ∷ 0x0b ∷ 0x00 ∷ []) (no_call 2)
+  pub in_order : ReadsEach ((0x91 ∷ 0x0b ∷ []) ∷ (0x91 ∷ 0x0b ∷ 0x00 ∷ []) ∷ []) (a_call status_call ∷ no_call 2 ∷ [])
+  -- none is a page, and each is something
+  pub no_page : (owner : ℕ) (records : List SealedRecord) → Reads [] (a_page owner records) → ⊥
+  pub one_each : ReadsEach ([] ∷ []) [] → ⊥
 
 -- ---- a pass
 

@@ -1,14 +1,18 @@
 -- The laws of sessions, as statements. Each is the contract of the function of its name.
-use Rattle.std.specs.Prelude.{◌≡◌, ◌≢◌, ℕ, ◌+◌, ◌≤◌, List, [], ◌∷◌, ◌++◌, length, slice_get, All, false, Some}
+use Rattle.std.specs.Prelude.{◌≡◌, ◌≢◌, ℕ, ◌+◌, ◌≤◌, ◌⊎◌, List, [], ◌∷◌, ◌++◌, length, slice_get, All, false, Some}
 use Rattle.std.specs.List.{Contains, filter}
+use Rattle.definitions.specs.Spelling.{IsBytes}
+use Rattle.definitions.specs.Calls.{WrongAt}
 use Rattle.definitions.specs.Step.{Used, used_nothing, then_used}
 use Rattle.record_rules.specs.Records.{SealedRecord, Entry}
 use Rattle.step_rules.specs.Calls.{Call}
-use Rattle.step_rules.specs.Answers.{Reply}
+use Rattle.step_rules.specs.Answers.{refused, no_memory, bad_request, Reply}
 use Rattle.step_rules.specs.Store.{KeyedStore}
 use Rattle.step_rules.specs.Turn.{Turn}
 use Rattle.step_rules.specs.PageTurns.{PageAnswer, PageTurn}
-use Rattle.session_rules.specs.Sessions.{Asked, a_call, a_page, SessionReply, call_reply, page_reply, caller_of, Told, is_of, Session}
+use Rattle.request_rules.specs.Requests.{call_kinds}
+use Rattle.session_rules.specs.Sessions.{Asked, a_call, a_page, SessionAnswer, to_call, SessionReply, call_reply, page_reply, caller_of, Told, is_of, Session}
+use Rattle.session_rules.specs.Reading.{Reads, ReadsEach}
 use Rattle.session_rules.specs.Passes.{TurnItem, TurnsOf, Pass, mine, seen_more}
 
 -- each request gets one reply
@@ -62,3 +66,31 @@ TurnsFollow = (before between after : List TurnItem) (replies more : List Sessio
 -- what a pass has committed grows by the entries of its number among those that it sees
 abbrev pub PassGrowsByItsOwn : Type 0
 PassGrowsByItsOwn = (pass : Pass) (added : List Entry) → mine (seen_more pass added) ≡ mine pass ++ filter (is_of pass.number) added
+
+-- a payload of bytes is read as one request, and as no other
+pub record IsReadAs (payload : List ℕ) : Type 0 where
+  pub asked : Asked
+  pub reads : Reads payload asked
+  pub alone : (other : Asked) → Reads payload other → other ≡ asked
+
+abbrev pub PayloadIsRead : Type 0
+PayloadIsRead = (payload : List ℕ) → IsBytes payload → IsReadAs payload
+
+-- and so is a list of payloads, as one list of requests
+pub record AreReadAs (payloads : List (List ℕ)) : Type 0 where
+  pub asked : List Asked
+  pub reads : ReadsEach payloads asked
+  pub alone : (other : List Asked) → ReadsEach payloads other → other ≡ asked
+
+abbrev pub PayloadsAreRead : Type 0
+PayloadsAreRead = (payloads : List (List ℕ)) → All IsBytes payloads → AreReadAs payloads
+
+-- In a session over the frames of these payloads a reply tells of a bad request only where no call is read, and tells the place. Where no
+-- call is read it tells that, or that memory was wanting.
+pub record TellsBad (payload : List ℕ) (answer : SessionAnswer) : Type 0 where
+  pub only : (place : ℕ) → answer ≡ to_call (refused (bad_request place)) → WrongAt call_kinds payload place
+  pub told : (place : ℕ) → WrongAt call_kinds payload place → (answer ≡ to_call (refused (bad_request place))) ⊎ (answer ≡ to_call (refused no_memory))
+
+abbrev pub BadRequestIsTold : Type 0
+BadRequestIsTold = (store : KeyedStore) (seen : List Entry) (number : ℕ) (payloads : List (List ℕ)) (asked : List Asked) (used : Used) (replies : List SessionReply) (journal : List Entry) (k : ℕ) (payload : List ℕ) (reply : SessionReply)
+    → Session store seen number asked used replies journal → All IsBytes payloads → ReadsEach payloads asked → slice_get payloads k ≡ Some payload → slice_get replies k ≡ Some reply → TellsBad payload reply.answer

@@ -2,13 +2,14 @@
 //! journal; passes, which take turns at it; the bytes of replies; and the laws of these words alone.
 //!
 //! A session names no other one. That sessions of different numbers share one journal and don't
-//! overlap is a law. The words for calls and steps are those of `step_rules`.
+//! overlap is a law. The words for calls and steps are those of `step_rules`, and those for what a
+//! payload spells are those of `request_rules`.
 //!
 //! Each function has an empty body, and its contract is the law that its name says.
 #![tactic(auto)]
 
-ghost use Rattle.session_rules.specs.Laws.{EachIsAnswered, RepliesAtPoints, PointsFollow, CommitsAreOwn, SessionsDontOverlap, OthersLeaveIt, TurnMakesLonger, PageTurnMakesLonger, SessionBegins, TurnsFollow, PassGrowsByItsOwn};
-ghost use Rattle.session_rules.specs.Examples.{WorkedReplies, WorkedSessions, WorkedPages, WorkedPass};
+ghost use Rattle.session_rules.specs.Laws.{EachIsAnswered, RepliesAtPoints, PointsFollow, CommitsAreOwn, SessionsDontOverlap, OthersLeaveIt, TurnMakesLonger, PageTurnMakesLonger, SessionBegins, PayloadIsRead, PayloadsAreRead, BadRequestIsTold, TurnsFollow, PassGrowsByItsOwn};
+ghost use Rattle.session_rules.specs.Examples.{WorkedReplies, WorkedSessions, WorkedPages, WorkedReading, WorkedPass};
 
 /// Each request of a session gets one reply.
 pub fn each_is_answered()
@@ -57,6 +58,21 @@ pub fn session_begins()
     ensures { SessionBegins }
 {}
 
+/// Each payload is one request: the call that it spells, or a place where it goes wrong.
+pub fn a_payload_is_one_request()
+    ensures { PayloadIsRead }
+{}
+
+/// A list of payloads is one list of requests, item by item.
+pub fn payloads_are_requests()
+    ensures { PayloadsAreRead }
+{}
+
+/// A bad request is told only where no call is read, with the place. There it is told, or want of memory.
+pub fn a_bad_request_is_told()
+    ensures { BadRequestIsTold }
+{}
+
 /// The turns of two runs of replies, one after the other, are those of both.
 pub fn turns_follow()
     ensures { TurnsFollow }
@@ -81,6 +97,11 @@ pub fn worked_sessions()
 /// A session that is asked a call and pages, worked out.
 pub fn worked_pages()
     ensures { WorkedPages }
+{}
+
+/// What is read of payloads, worked out.
+pub fn worked_reading()
+    ensures { WorkedReading }
 {}
 
 /// A pass, worked out: which entries are its own, and its turns.

@@ -1,5 +1,5 @@
 -- What a reply tells of what went wrong outside: a step alone never tells it.
-use Rattle.std.proofs.Common.{◌≡◌, ℕ, Bool, true, false, inl, inr, List, length, Some, refl, sym, ◌∙◌, ap, subst}
+use Rattle.std.proofs.Common.{◌≡◌, ℕ, ◌+◌, Bool, true, false, cond, inl, inr, List, [], ◌∷◌, length, filter, Some, refl, sym, ◌∙◌, ap, subst, arith}
 use Rattle.std.specs.Prelude.{slice_get, All}
 use Rattle.std.proofs.lemmas.Bool.{true≢false}
 use Rattle.definitions.specs.Spelling.{IsBytes}
@@ -7,12 +7,13 @@ use Rattle.definitions.specs.Calls.{WrongAt}
 use Rattle.definitions.specs.Step.{Used}
 use Rattle.record_rules.specs.Records.{Caller, Entry}
 use Rattle.step_rules.specs.Calls.{Call}
-use Rattle.step_rules.specs.Answers.{Refusal, random_fault, disk_fault, no_memory, bad_request, Answer, refused}
+use Rattle.step_rules.specs.Answers.{Refusal, too_long, unknown_id, unknown_name, full, id_taken, random_fault, disk_fault, no_memory, bad_request, Answer, began, stored, hits, value_is, keys, aliases, places, refused}
 use Rattle.step_rules.specs.Store.{KeyedStore}
 use Rattle.step_rules.specs.Step.{Draft, start_draft, record_draft, Unknown, end_unknown, delete_unknown, alias_unknown, draft_answer, Shows, shows_hits, shows_value, shows_no_value, shows_keys, shows_aliases, shows_places, Step, long_step, unknown_step, full_step, taken_step, append_step, read_step}
+use Rattle.step_rules.specs.Turn.{UsedSome, used_clock, used_bytes}
 use Rattle.request_rules.specs.Requests.{call_kinds}
 use Rattle.request_rules.proofs.Requests.{one_request_place, call_never_wrong}
-use Rattle.session_rules.specs.Sessions.{Asked, a_call, a_page, SessionAnswer, to_call, to_page, SessionReply, Told, told_step, told_disk_fault, told_random_fault, told_no_memory, told_no_memory_to_read, told_bad, told_no_memory_for_bad, told_page, told_page_refused, told_page_disk_fault, told_page_no_memory, Session}
+use Rattle.session_rules.specs.Sessions.{Asked, a_call, a_page, SessionAnswer, to_call, to_page, SessionReply, Told, told_step, told_disk_fault, told_random_fault, told_no_memory, told_no_memory_to_read, told_bad, told_no_memory_for_bad, told_page, told_page_refused, told_page_disk_fault, told_page_no_memory, Serves, Session, tells_random_fault, random_faults}
 use Rattle.session_rules.specs.Reading.{Reads, ReadsEach}
 use Rattle.session_rules.specs.Laws.{TellsBad}
 use Rattle.session_rules.proofs.Sessions.{told_at}
@@ -60,6 +61,82 @@ module _ (store : KeyedStore) (journal : List Entry) (caller : Caller) (call : C
   step_inner (taken_step _ _ _ _ _ _ _ r) = ap outer r.answer_is
   step_inner (append_step now drawn draft _ _ _ _ _ is) = ap outer is ∙ draft_inner store journal draft _
   step_inner (read_step _ shows _) = shows_inner store journal call answer shows
+
+  step_draws : Step store journal caller call used after answer → used.faults ≡ 0
+  step_draws (long_step _ _ is _ _) = ap (λ (u : Used). u.faults) is
+  step_draws (unknown_step _ _ is _ _) = ap (λ (u : Used). u.faults) is
+  step_draws (full_step _ _ _ is _ _ _ _) = ap (λ (u : Used). u.faults) is
+  step_draws (taken_step _ _ _ is _ _ _ _) = ap (λ (u : Used). u.faults) is
+  step_draws (append_step _ _ _ is _ _ _ _ _) = ap (λ (u : Used). u.faults) is
+  step_draws (read_step is _ _) = ap (λ (u : Used). u.faults) is
+
+some_drew : (used : Used) → UsedSome used → used.faults ≡ 0
+some_drew used (used_clock _ is) = ap (λ (u : Used). u.faults) is
+some_drew used (used_bytes _ _ _ _ is) = ap (λ (u : Used). u.faults) is
+
+-- ---- failed draws
+
+count : Bool → ℕ
+count true = 1
+count false = 0
+
+random_outer : (answer : Answer) → outer answer ≡ false → tells_random_fault (to_call answer) ≡ false
+unfolding outer outer_refusal
+random_outer (began _) inner = refl
+random_outer (stored _) inner = refl
+random_outer (hits _) inner = refl
+random_outer (value_is _) inner = refl
+random_outer (keys _) inner = refl
+random_outer (aliases _) inner = refl
+random_outer (places _) inner = refl
+random_outer (refused (too_long _ _)) inner = refl
+random_outer (refused (unknown_id _)) inner = refl
+random_outer (refused (unknown_name _)) inner = refl
+random_outer (refused (full _)) inner = refl
+random_outer (refused random_fault) inner = absurd (true≢false inner)
+random_outer (refused (id_taken _)) inner = refl
+random_outer (refused disk_fault) inner = refl
+random_outer (refused no_memory) inner = refl
+random_outer (refused (bad_request _)) inner = refl
+
+module _ (store : KeyedStore) (journal : List Entry) (caller : Caller) (asked : Asked) (front : ℕ) (used : Used) (answer : SessionAnswer) (commit : List Entry) where
+  same_count : (n : ℕ) (other : SessionAnswer) → used.faults ≡ n → answer ≡ other → n ≡ count (tells_random_fault other) → used.faults ≡ count (tells_random_fault answer)
+  same_count n other faults is same = faults ∙ same ∙ sym (ap (λ a. count (tells_random_fault a)) is)
+
+  none_used : {none : Used} → used ≡ none → used.faults ≡ none.faults
+  none_used is = ap (λ (u : Used). u.faults) is
+
+  told_draws : Told store journal caller asked front used answer commit → used.faults ≡ count (tells_random_fault answer)
+  unfolding count
+  told_draws (told_step call before given _ _ step is) = same_count 0 (to_call given) (step_draws store before caller call used _ given step) is (sym (ap count (random_outer given (step_inner store before caller call used _ given step))))
+  told_draws (told_disk_fault _ _ _ some is _) = same_count 0 _ (some_drew used some) is refl
+  told_draws (told_random_fault _ _ _ _ _ u is _) = same_count 1 _ (none_used u) is refl
+  told_draws (told_no_memory _ _ _ some is _) = same_count 0 _ (some_drew used some) is refl
+  told_draws (told_no_memory_to_read _ _ _ u is _) = same_count 0 _ (none_used u) is refl
+  told_draws (told_bad _ _ u is _) = same_count 0 _ (none_used u) is refl
+  told_draws (told_no_memory_for_bad _ _ u is _) = same_count 0 _ (none_used u) is refl
+  told_draws (told_page _ _ _ _ _ _ u is) = same_count 0 _ (none_used u) is refl
+  told_draws (told_page_refused _ _ _ _ _ u is _) = same_count 0 _ (none_used u) is refl
+  told_draws (told_page_disk_fault _ _ _ u is _) = same_count 0 _ (none_used u) is refl
+  told_draws (told_page_no_memory _ _ _ u is _) = same_count 0 _ (none_used u) is refl
+
+counted : (reply : SessionReply) (replies : List SessionReply) → random_faults (reply ∷ replies) ≡ count (tells_random_fault reply.answer) + random_faults replies
+unfolding count
+counted reply replies = elim (tells_random_fault reply.answer) as (λ b. length (cond b (reply ∷ filter (λ r. tells_random_fault r.answer) replies) (filter (λ r. tells_random_fault r.answer) replies)) ≡ count b + random_faults replies) [
+  | true ↦ omega arith
+  | false ↦ omega arith
+]
+
+module _ (store : KeyedStore) (journal : List Entry) (number : ℕ) where
+  pub faults_drawn : (from call : ℕ) (asked : List Asked) (used : Used) (replies : List SessionReply) (commits : List Entry) → Serves store journal number from call asked used replies commits → random_faults replies ≡ used.faults
+  faults_drawn from call [] used [] commits serves = sym (ap (λ (u : Used). u.faults) serves.0)
+  faults_drawn from call (a ∷ more) used (r ∷ replies) commits serves =
+      let one = serves.0 in
+      let later = faults_drawn r.front (call + 1) more one.used_later replies one.commits_later serves.1 in
+      let here = told_draws store journal _ a r.front one.used_here r.answer one.commit one.told in
+      counted r replies ∙ ap (λ n. n + random_faults replies) (sym here) ∙ ap (λ n. one.used_here.faults + n) later ∙ sym (ap (λ (u : Used). u.faults) one.used_is)
+  faults_drawn from call [] used (r ∷ replies) commits serves = absurd serves
+  faults_drawn from call (a ∷ more) used [] commits serves = absurd serves
 
 -- ---- bad requests
 

@@ -11,7 +11,7 @@ use Rattle.step_rules.specs.Store.{KeyedStore}
 use Rattle.step_rules.specs.Turn.{Turn}
 use Rattle.step_rules.specs.PageTurns.{PageAnswer, PageTurn}
 use Rattle.request_rules.specs.Requests.{call_kinds}
-use Rattle.session_rules.specs.Sessions.{Asked, a_call, a_page, SessionAnswer, to_call, SessionReply, call_reply, page_reply, caller_of, Told, is_of, Session}
+use Rattle.session_rules.specs.Sessions.{Asked, a_call, a_page, SessionAnswer, to_call, SessionReply, call_reply, page_reply, caller_of, Told, is_of, Session, random_faults}
 use Rattle.session_rules.specs.Reading.{Reads, ReadsEach}
 use Rattle.session_rules.specs.Passes.{TurnItem, TurnsOf, Pass, mine, seen_more}
 
@@ -58,6 +58,10 @@ PageTurnMakesLonger = (store : KeyedStore) (seen : List Entry) (number : ℕ) (a
 -- a session begins with no request, at any journal
 abbrev pub SessionBegins : Type 0
 SessionBegins = (store : KeyedStore) (seen : List Entry) (number : ℕ) → Session store seen number [] used_nothing [] seen
+
+-- The replies that tell of a fault of the random source are as many as the draws that failed, so no such reply comes without one.
+abbrev pub RandomFaultsAreDraws : Type 0
+RandomFaultsAreDraws = (store : KeyedStore) (seen : List Entry) (number : ℕ) (asked : List Asked) (used : Used) (replies : List SessionReply) (journal : List Entry) → Session store seen number asked used replies journal → random_faults replies ≡ used.faults
 
 -- the turns of two runs of replies, one after the other, are those of both
 abbrev pub TurnsFollow : Type 0

@@ -95,3 +95,11 @@ pub record Session (store : KeyedStore) (seen : List Entry) (number : ℕ) (aske
   pub commits : List Entry
   pub serves : Serves store journal number (length seen) 1 asked used replies commits
   pub own_are : filter (is_of number) since ≡ commits
+
+-- a fault of the random source, and how many replies tell of one
+abbrev pub tells_random_fault : SessionAnswer → Bool
+tells_random_fault (to_call (refused random_fault)) = true
+tells_random_fault _ = false
+
+abbrev pub random_faults : List SessionReply → ℕ
+random_faults replies = length (filter (λ reply. tells_random_fault reply.answer) replies)

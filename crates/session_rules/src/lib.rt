@@ -8,7 +8,7 @@
 //! Each function has an empty body, and its contract is the law that its name says.
 #![tactic(auto)]
 
-ghost use Rattle.session_rules.specs.Laws.{EachIsAnswered, RepliesAtPoints, PointsFollow, CommitsAreOwn, SessionsDontOverlap, OthersLeaveIt, TurnMakesLonger, PageTurnMakesLonger, SessionBegins, PayloadIsRead, PayloadsAreRead, BadRequestIsTold, TurnsFollow, PassGrowsByItsOwn};
+ghost use Rattle.session_rules.specs.Laws.{EachIsAnswered, RepliesAtPoints, PointsFollow, CommitsAreOwn, SessionsDontOverlap, OthersLeaveIt, TurnMakesLonger, PageTurnMakesLonger, SessionBegins, PayloadIsRead, PayloadsAreRead, BadRequestIsTold, TurnsFollow, RandomFaultsAreDraws, PassGrowsByItsOwn};
 ghost use Rattle.session_rules.specs.Examples.{WorkedReplies, WorkedSessions, WorkedPages, WorkedReading, WorkedPass};
 
 /// Each request of a session gets one reply.
@@ -71,6 +71,11 @@ pub fn payloads_are_requests()
 /// A bad request is told only where no call is read, with the place. There it is told, or want of memory.
 pub fn a_bad_request_is_told()
     ensures { BadRequestIsTold }
+{}
+
+/// A fault of the random source is told as often as a draw failed.
+pub fn random_faults_are_failed_draws()
+    ensures { RandomFaultsAreDraws }
 {}
 
 /// The turns of two runs of replies, one after the other, are those of both.

@@ -1,9 +1,11 @@
 -- The examples, computed.
-use Rattle.std.proofs.Common.{◌≡◌, ℕ, List, [], ◌∷◌, length, true, false, refl, sym, ap, subst, arith}
+use Rattle.std.proofs.Common.{◌≡◌, ℕ, ◌+◌, ◌≤◌, List, [], ◌∷◌, length, true, false, refl, sym, ap, subst, arith}
 use Rattle.std.specs.Prelude.{codes}
 use Rattle.std.proofs.lemmas.Bool.{true≢false}
+use Rattle.std.proofs.lemmas.List.{append_cancel_left}
 use Rattle.definitions.specs.Ids.{id_text, made_id}
 use Rattle.definitions.specs.Step.{used_nothing, read_and_drew}
+use Rattle.record_rules.specs.Records.{Entry}
 use Rattle.record_rules.specs.Growth.{PageGap}
 use Rattle.record_rules.specs.Examples.{kv_record}
 use Rattle.step_rules.specs.Answers.{stored, refused, disk_fault}
@@ -12,8 +14,8 @@ use Rattle.step_rules.specs.PageTurns.{page_faulted}
 use Rattle.step_rules.specs.Examples.{first_time, second_time, ten_bytes, ls_call, two_records}
 use Rattle.request_rules.proofs.Examples.{calls, faults}
 use Rattle.session_rules.specs.Sessions.{SessionAnswer, to_call, to_page, told_step, told_bad, told_no_memory_for_bad, told_page, told_page_refused, told_page_disk_fault, told_page_no_memory}
-use Rattle.session_rules.specs.Passes.{TurnItem, tells_disk_fault, TurnsFor}
-use Rattle.session_rules.specs.Examples.{other_bytes, other_id, started_by, both, a_turn, another_turn, worker_batch, worker_journal, WorkedReplies, WorkedSessions, WorkedPages, WorkedReading, WorkedPass}
+use Rattle.session_rules.specs.Passes.{TurnItem, failures, tells_disk_fault, TurnsFor}
+use Rattle.session_rules.specs.Examples.{other_bytes, other_id, started_by, both, a_turn, another_turn, by_first, by_second, worker_batch, worker_journal, WorkedReplies, WorkedSessions, WorkedPages, WorkedReading, WorkedPass}
 
 pub replies : WorkedReplies
 unfolding id_text
@@ -153,6 +155,12 @@ one_for_none : (turns : List TurnItem) → a_turn ∷ [] ≡ turns → TurnsFor 
 one_for_none [] is told = let same : ◌≡◌ {A = ℕ} 1 0 = ap (λ (l : List TurnItem). length l) is in omega arith
 one_for_none (turn ∷ turns) is told = told
 
+failed_uncounted : (turns : List TurnItem) → another_turn ∷ [] ≡ turns → 4 + failures turns ≤ 4 → ⊥
+failed_uncounted turns is counted = let one : 4 + failures (another_turn ∷ []) ≤ 4 = subst (λ ts. 4 + failures ts ≤ 4) (sym is) counted in omega (arith, one)
+
+no_less : (since : List Entry) → [] ≡ by_second ∷ since → ⊥
+no_less since is = let same : ◌≡◌ {A = ℕ} 0 (length (by_second ∷ since)) = ap length is in omega (arith, same)
+
 pub pass : WorkedPass
 pass = record {
   caller_is = refl;
@@ -163,4 +171,13 @@ pass = record {
   one_more_turn = (another_turn ∷ [], refl, (refl, (λ other. refl), tt));
   no_turn = λ turns. none_for_one turns.0 turns.1 turns.2;
   no_reply = λ turns. one_for_none turns.0 turns.1 turns.2;
+  one_failed = refl;
+  one_told = refl;
+  one_undrawn = refl;
+  moved = record { number = refl; fixed = refl; seen = (by_first ∷ [], refl); known = omega arith; turns_since = another_turn ∷ []; turns = refl; faults = omega arith };
+  uncounted = λ moves. failed_uncounted moves.turns_since (append_cancel_left (a_turn ∷ []) (another_turn ∷ []) moves.turns_since moves.turns) moves.faults;
+  unseen = λ moves. no_less moves.seen.0 moves.seen.1;
+  split_is = refl;
+  joined_is = refl;
+  other_joined = refl;
 }

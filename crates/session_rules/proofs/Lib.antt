@@ -4,3 +4,4 @@ pub mod Sessions
 pub mod Turns
 pub mod Reading
 pub mod Telling
+pub mod Passes

@@ -112,7 +112,7 @@ module _ (store : KeyedStore) (journal : List Entry) (number : ℕ) where
     serves_still from call [] used (r ∷ replies) commits serves = absurd serves
     serves_still from call (a ∷ more) used [] commits serves = absurd serves
 
-none_kept : (number : ℕ) (more : List Entry) → All (λ entry. is_of number entry ≡ false) more → filter (is_of number) more ≡ []
+pub none_kept : (number : ℕ) (more : List Entry) → All (λ entry. is_of number entry ≡ false) more → filter (is_of number) more ≡ []
 none_kept number [] others = refl
 none_kept number (entry ∷ more) others =
     ap (λ b. cond b (entry ∷ filter (is_of number) more) (filter (is_of number) more)) (others 0 entry (omega arith)) ∙ none_kept number more (λ k d below. others (suc k) d (omega arith))

@@ -11,9 +11,9 @@ use Rattle.step_rules.specs.Store.{KeyedStore}
 use Rattle.step_rules.specs.PageTurns.{took, page_refused, page_faulted, page_unheld}
 use Rattle.step_rules.specs.Examples.{first_time, second_time, ten_bytes, ls_call, two_records}
 use Rattle.session_rules.specs.Bytes.{reply_bytes}
-use Rattle.session_rules.specs.Sessions.{a_call, no_call, a_page, to_call, to_page, caller_of, Session}
+use Rattle.session_rules.specs.Sessions.{a_call, no_call, a_page, to_call, to_page, caller_of, Session, random_faults}
 use Rattle.session_rules.specs.Reading.{Reads, ReadsEach}
-use Rattle.session_rules.specs.Passes.{TurnItem, Pass, mine, seen_more, KnowsItself, TurnsOf}
+use Rattle.session_rules.specs.Passes.{TurnItem, Pass, mine, seen_more, KnowsItself, failures, PassMoves, split_off, joined, disk_faults, TurnsOf}
 
 pub record WorkedReplies : Type 0 where
   pub long_command : reply_bytes (record { front = 0; answer = refused (too_long 1 262145) }) ≡ 0x94 ∷ 0x01 ∷ 0x00 ∷ 0x01 ∷ 0xce ∷ 0x00 ∷ 0x04 ∷ 0x00 ∷ 0x01 ∷ []
@@ -133,3 +133,17 @@ pub record WorkedPass : Type 0 where
   pub one_more_turn : TurnsOf (a_turn ∷ []) (record { front = 3; answer = to_call (stored 0) } ∷ []) (a_turn ∷ another_turn ∷ [])
   pub no_turn : TurnsOf (a_turn ∷ []) (record { front = 3; answer = to_call (stored 0) } ∷ []) (a_turn ∷ []) → ⊥
   pub no_reply : TurnsOf [] [] (a_turn ∷ []) → ⊥
+  -- one of its turns failed, and one reply tells of it; another tells of a fault of the random source
+  pub one_failed : failures (a_turn ∷ another_turn ∷ []) ≡ 1
+  pub one_told : disk_faults (record { front = 3; answer = to_call (refused disk_fault) } ∷ record { front = 3; answer = to_call (refused random_fault) } ∷ record { front = 3; answer = to_page (took 0) } ∷ []) ≡ 1
+  pub one_undrawn : random_faults (record { front = 3; answer = to_call (refused disk_fault) } ∷ record { front = 3; answer = to_call (refused random_fault) } ∷ record { front = 3; answer = to_page (took 0) } ∷ []) ≡ 1
+  -- with one more entry seen, one more number known and a failed turn more, it has counted one fault more at least
+  pub moved : PassMoves (pass_at (by_second ∷ [])) (record { number = 1; seen = by_second ∷ by_first ∷ []; known = 3; turns = a_turn ∷ another_turn ∷ []; faults = 5; fixed = 0 ∷ 1 ∷ [] })
+  pub uncounted : PassMoves (pass_at []) (record (pass_at []) { turns = a_turn ∷ another_turn ∷ [] }) → ⊥
+  pub unseen : PassMoves (pass_at (by_second ∷ [])) (pass_at []) → ⊥
+  -- pass 3 is split off, and joined back when it has seen one entry more and counted a fault more
+  pub split_is : split_off (pass_at (by_second ∷ [])) 3 ≡ record { number = 3; seen = by_second ∷ []; known = 3; turns = []; faults = 4; fixed = 0 ∷ 1 ∷ [] }
+  pub joined_is : joined (pass_at (by_second ∷ [])) (record { number = 3; seen = by_second ∷ by_first ∷ []; known = 3; turns = another_turn ∷ []; faults = 5; fixed = 0 ∷ 1 ∷ [] })
+      ≡ record { number = 1; seen = by_second ∷ by_first ∷ []; known = 3; turns = a_turn ∷ []; faults = 5; fixed = 0 ∷ 1 ∷ [] }
+  pub other_joined : joined (record { number = 3; seen = by_second ∷ by_first ∷ []; known = 3; turns = another_turn ∷ []; faults = 5; fixed = 0 ∷ 1 ∷ [] }) (pass_at (by_second ∷ []))
+      ≡ record { number = 3; seen = by_second ∷ by_first ∷ []; known = 3; turns = another_turn ∷ []; faults = 5; fixed = 0 ∷ 1 ∷ [] }

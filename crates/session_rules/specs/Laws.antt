@@ -13,7 +13,7 @@ use Rattle.step_rules.specs.PageTurns.{PageAnswer, PageTurn}
 use Rattle.request_rules.specs.Requests.{call_kinds}
 use Rattle.session_rules.specs.Sessions.{Asked, a_call, a_page, SessionAnswer, to_call, SessionReply, call_reply, page_reply, caller_of, Told, is_of, Session, random_faults}
 use Rattle.session_rules.specs.Reading.{Reads, ReadsEach}
-use Rattle.session_rules.specs.Passes.{TurnItem, TurnsOf, Pass, mine, seen_more}
+use Rattle.session_rules.specs.Passes.{TurnItem, Pass, mine, seen_more, KnowsItself, Begins, PassMoves, split_off, joined, disk_faults, TurnsOf}
 
 -- each request gets one reply
 abbrev pub EachIsAnswered : Type 0
@@ -70,6 +70,44 @@ TurnsFollow = (before between after : List TurnItem) (replies more : List Sessio
 -- what a pass has committed grows by the entries of its number among those that it sees
 abbrev pub PassGrowsByItsOwn : Type 0
 PassGrowsByItsOwn = (pass : Pass) (added : List Entry) → mine (seen_more pass added) ≡ mine pass ++ filter (is_of pass.number) added
+
+-- a pass that stays moves, and moves follow one another; so a run of calls moves it
+abbrev pub PassStays : Type 0
+PassStays = (pass : Pass) → PassMoves pass pass
+
+abbrev pub MovesFollow : Type 0
+MovesFollow = (one two three : Pass) → PassMoves one two → PassMoves two three → PassMoves one three
+
+-- a pass that knows of its own number goes on to know of it
+abbrev pub PassKnowsItself : Type 0
+PassKnowsItself = (old new : Pass) → PassMoves old new → KnowsItself old → KnowsItself new
+
+-- Of a pass and its turns since then: the replies that tell of a fault of the disk are no more than the faults that were counted.
+abbrev pub DiskFaultsAreCounted : Type 0
+DiskFaultsAreCounted = (old new : Pass) (replies : List SessionReply) → PassMoves old new → TurnsOf old.turns replies new.turns → old.faults + disk_faults replies ≤ new.faults
+
+-- A pass that is split off under a number that no entry has is without commits, knows of its number, and has all else of the other pass.
+pub record SplitsOff (pass new : Pass) : Type 0 where
+  pub seen : new.seen ≡ pass.seen
+  pub faults : new.faults ≡ pass.faults
+  pub fixed : new.fixed ≡ pass.fixed
+  pub mine_is : mine new ≡ []
+  pub turns : new.turns ≡ []
+  pub known : KnowsItself new
+
+abbrev pub SplitStartsAnew : Type 0
+SplitStartsAnew = (pass : Pass) (number : ℕ) → All (λ entry. is_of number entry ≡ false) pass.seen → SplitsOff pass (split_off pass number)
+
+-- Where one of two passes has seen a front of what the other has, joining them moves the first, and nothing that the second had seen or
+-- counted is lost.
+pub record Joins (pass other new : Pass) : Type 0 where
+  pub moves : PassMoves pass new
+  pub seen : Begins other.seen new.seen
+  pub known : other.known ≤ new.known
+  pub faults : other.faults ≤ new.faults
+
+abbrev pub JoinKeepsBoth : Type 0
+JoinKeepsBoth = (pass other : Pass) → Begins pass.seen other.seen ⊎ Begins other.seen pass.seen → Joins pass other (joined pass other)
 
 -- a payload of bytes is read as one request, and as no other
 pub record IsReadAs (payload : List ℕ) : Type 0 where

@@ -1,5 +1,5 @@
 -- A pass: what one of several callers has seen of a journal that they share by turns.
-use Rattle.std.specs.Prelude.{◌≡◌, ℕ, ◌≤◌, List, [], ◌∷◌, ◌++◌, filter, Bool, true, false}
+use Rattle.std.specs.Prelude.{◌≡◌, ℕ, ◌+◌, ◌≤◌, max, List, [], ◌∷◌, ◌++◌, length, filter, Bool, true, false, nat_lt, if◌then◌else◌}
 use Rattle.record_rules.specs.Records.{Entry}
 use Rattle.step_rules.specs.Answers.{refused, disk_fault}
 use Rattle.step_rules.specs.PageTurns.{page_faulted}
@@ -33,11 +33,44 @@ seen_more pass added = record pass { seen = pass.seen ++ added }
 abbrev pub KnowsItself : Pass → Type 0
 KnowsItself pass = pass.number ≤ pass.known
 
--- a fault of the disk, told to a call or to a page
+-- how many of the turns failed
+abbrev pub failures : List TurnItem → ℕ
+failures turns = length (filter (λ turn. turn.failed) turns)
+
+-- the list begins with the other one
+abbrev pub Begins : List Entry → List Entry → Type 0
+Begins front entries = (since : List Entry) × (entries ≡ front ++ since)
+
+-- What any call with a pass leaves of it: its number and the fixed part. It has seen no less, knows of no fewer numbers, and its turns go on.
+-- Of the turns since then no more failed than faults were counted.
+pub record PassMoves (old new : Pass) : Type 0 where
+  pub number : new.number ≡ old.number
+  pub fixed : new.fixed ≡ old.fixed
+  pub seen : Begins old.seen new.seen
+  pub known : old.known ≤ new.known
+  pub turns_since : List TurnItem
+  pub turns : new.turns ≡ old.turns ++ turns_since
+  pub faults : old.faults + failures turns_since ≤ new.faults
+
+-- The pass that is split off and given this number, the last that was given: it has seen and counted as much, and has had no turn.
+abbrev pub split_off : Pass → ℕ → Pass
+split_off pass number = record pass { number = number; known = number; turns = [] }
+
+abbrev pub longer : List Entry → List Entry → List Entry
+longer one other = if nat_lt (length one) (length other) then other else one
+
+-- The pass when another one is joined to it: it has seen what the one of them had that had seen more, and keeps the greater counts.
+abbrev pub joined : Pass → Pass → Pass
+joined pass other = record pass { seen = longer pass.seen other.seen; known = max pass.known other.known; faults = max pass.faults other.faults }
+
+-- a fault of the disk, told to a call or to a page, and how many replies tell of one
 abbrev pub tells_disk_fault : SessionAnswer → Bool
 tells_disk_fault (to_call (refused disk_fault)) = true
 tells_disk_fault (to_page page_faulted) = true
 tells_disk_fault _ = false
+
+abbrev pub disk_faults : List SessionReply → ℕ
+disk_faults replies = length (filter (λ reply. tells_disk_fault reply.answer) replies)
 
 -- One turn for each reply, in order: the front is what the turn left, and a fault of the disk is told only after a turn that failed.
 abbrev pub TurnsFor : List TurnItem → List SessionReply → Type 0

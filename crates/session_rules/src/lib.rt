@@ -8,7 +8,7 @@
 //! Each function has an empty body, and its contract is the law that its name says.
 #![tactic(auto)]
 
-ghost use Rattle.session_rules.specs.Laws.{EachIsAnswered, RepliesAtPoints, PointsFollow, CommitsAreOwn, SessionsDontOverlap, OthersLeaveIt, TurnMakesLonger, PageTurnMakesLonger, SessionBegins, PayloadIsRead, PayloadsAreRead, BadRequestIsTold, TurnsFollow, RandomFaultsAreDraws, PassGrowsByItsOwn};
+ghost use Rattle.session_rules.specs.Laws.{EachIsAnswered, RepliesAtPoints, PointsFollow, CommitsAreOwn, SessionsDontOverlap, OthersLeaveIt, TurnMakesLonger, PageTurnMakesLonger, SessionBegins, PayloadIsRead, PayloadsAreRead, BadRequestIsTold, TurnsFollow, RandomFaultsAreDraws, PassGrowsByItsOwn, PassStays, MovesFollow, PassKnowsItself, DiskFaultsAreCounted, SplitStartsAnew, JoinKeepsBoth};
 ghost use Rattle.session_rules.specs.Examples.{WorkedReplies, WorkedSessions, WorkedPages, WorkedReading, WorkedPass};
 
 /// Each request of a session gets one reply.
@@ -88,6 +88,36 @@ pub fn pass_grows_by_its_own()
     ensures { PassGrowsByItsOwn }
 {}
 
+/// What a call leaves of a pass holds of a pass that stays.
+pub fn a_pass_may_stay()
+    ensures { PassStays }
+{}
+
+/// What a call leaves of a pass, a run of calls leaves of it.
+pub fn moves_follow()
+    ensures { MovesFollow }
+{}
+
+/// A pass that knows of its own number goes on to know of it.
+pub fn a_pass_knows_itself()
+    ensures { PassKnowsItself }
+{}
+
+/// Faults of the disk are told no more often than the pass counted them.
+pub fn disk_faults_are_counted()
+    ensures { DiskFaultsAreCounted }
+{}
+
+/// A pass that is split off has all that the other had seen and counted, and no commits of its own.
+pub fn a_split_starts_anew()
+    ensures { SplitStartsAnew }
+{}
+
+/// A join keeps the longer of what both had seen and the greater of what they had counted.
+pub fn a_join_keeps_both()
+    ensures { JoinKeepsBoth }
+{}
+
 /// Replies in bytes, worked out.
 pub fn worked_replies()
     ensures { WorkedReplies }
@@ -109,7 +139,7 @@ pub fn worked_reading()
     ensures { WorkedReading }
 {}
 
-/// A pass, worked out: which entries are its own, and its turns.
+/// A pass, worked out: which entries are its own, its turns, how it moves, is split and is joined.
 pub fn worked_pass()
     ensures { WorkedPass }
 {}

@@ -4,16 +4,20 @@ use Rattle.std.specs.Prelude.{codes}
 use Rattle.std.proofs.lemmas.Bool.{true≢false}
 use Rattle.std.proofs.lemmas.List.{append_cancel_left}
 use Rattle.definitions.specs.Ids.{id_text, made_id}
-use Rattle.definitions.specs.Step.{used_nothing, read_and_drew}
+use Rattle.definitions.specs.Step.{Used, used_nothing, read_clock, read_and_drew, read_and_failed}
+use Rattle.definitions.proofs.Runs.{then_used-nothing}
 use Rattle.record_rules.specs.Records.{Entry}
 use Rattle.record_rules.specs.Growth.{PageGap}
 use Rattle.record_rules.specs.Examples.{kv_record}
 use Rattle.step_rules.specs.Answers.{stored, refused, disk_fault}
-use Rattle.step_rules.specs.Step.{start_draft, start_drafts, append_step}
+use Rattle.step_rules.specs.Calls.{status_call}
+use Rattle.step_rules.specs.Store.{KeyedStore}
+use Rattle.step_rules.specs.Turn.{used_clock, used_bytes}
+use Rattle.step_rules.specs.Step.{Ready, start_draft, start_drafts, append_step}
 use Rattle.step_rules.specs.PageTurns.{page_faulted}
 use Rattle.step_rules.specs.Examples.{first_time, second_time, ten_bytes, ls_call, two_records}
 use Rattle.request_rules.proofs.Examples.{calls, faults}
-use Rattle.session_rules.specs.Sessions.{SessionAnswer, to_call, to_page, told_step, told_bad, told_no_memory_for_bad, told_page, told_page_refused, told_page_disk_fault, told_page_no_memory}
+use Rattle.session_rules.specs.Sessions.{Asked, a_call, no_call, caller_of, Told, told_disk_fault, told_random_fault, told_no_memory, told_no_memory_to_read, Session, SessionAnswer, to_call, to_page, told_step, told_bad, told_no_memory_for_bad, told_page, told_page_refused, told_page_disk_fault, told_page_no_memory}
 use Rattle.session_rules.specs.Passes.{TurnItem, failures, tells_disk_fault, TurnsFor}
 use Rattle.session_rules.specs.Examples.{other_bytes, other_id, started_by, both, a_turn, another_turn, by_first, by_second, worker_batch, worker_journal, WorkedReplies, WorkedSessions, WorkedPages, WorkedReading, WorkedPass}
 
@@ -24,6 +28,19 @@ replies = record { long_command = refl; never_ran = refl; no_alias = refl; is_fu
 -- no other turn stands there, and it didn't fail
 same_turn : (answer : SessionAnswer) (turns : List TurnItem) → tells_disk_fault answer ≡ true → record { found = 1; left = 1; failed = false } ∷ [] ≡ turns → TurnsFor turns (record { front = 1; answer = answer } ∷ []) → ⊥
 same_turn answer turns fault is told = let here = subst (λ t. TurnsFor t (record { front = 1; answer = answer } ∷ [])) (sym is) told in true≢false (sym (here.1 fault))
+
+-- one request at an empty journal, of which nothing is left
+left_empty : (store : KeyedStore) (asked : Asked) (used : Used) (answer : SessionAnswer) → Told store [] (caller_of 1 1) asked 0 used answer [] → Session store [] 1 (asked ∷ []) used (record { front = 0; answer = answer } ∷ []) []
+left_empty store asked used answer told = record {
+  since = [];
+  begins = refl;
+  commits = [];
+  own_are = refl;
+  serves = (record { used_here = used; used_later = used_nothing; commit = []; commits_later = []; used_is = sym (then_used-nothing used); commits_are = refl; behind = omega arith; within = omega arith; told = told }, (refl, refl));
+}
+
+ready : (store : KeyedStore) → Ready store [] ls_call (start_draft (codes "ls") (codes "/") (codes "s1") (codes "h:u"))
+ready store = record { short = refl; drafts = start_drafts _ _ _ _ refl refl; room = refl }
 
 pub sessions : WorkedSessions
 sessions = record {
@@ -67,20 +84,13 @@ sessions = record {
       (refl, refl),
     );
   };
-  no_call_told = λ store. record {
-    since = [];
-    begins = refl;
-    commits = [];
-    own_are = refl;
-    serves = (record { used_here = used_nothing; used_later = used_nothing; commit = []; commits_later = []; used_is = refl; commits_are = refl; behind = omega arith; within = omega arith; told = told_bad 14 refl refl refl refl }, (refl, refl));
-  };
-  no_call_unheld = λ store. record {
-    since = [];
-    begins = refl;
-    commits = [];
-    own_are = refl;
-    serves = (record { used_here = used_nothing; used_later = used_nothing; commit = []; commits_later = []; used_is = refl; commits_are = refl; behind = omega arith; within = omega arith; told = told_no_memory_for_bad 14 refl refl refl refl }, (refl, refl));
-  };
+  no_call_told = λ store. left_empty store (no_call 14) used_nothing _ (told_bad 14 refl refl refl refl);
+  no_call_unheld = λ store. left_empty store (no_call 14) used_nothing _ (told_no_memory_for_bad 14 refl refl refl refl);
+  disk_failed = λ store. left_empty store (a_call ls_call) (read_clock first_time) _ (told_disk_fault ls_call refl refl (used_clock first_time refl) refl refl);
+  commit_failed = λ store. left_empty store (a_call ls_call) (read_and_drew first_time ten_bytes) _ (told_disk_fault ls_call refl refl (used_bytes first_time _ ten_bytes (ready store) refl refl) refl refl);
+  draw_failed = λ store. left_empty store (a_call ls_call) (read_and_failed first_time) _ (told_random_fault ls_call _ first_time refl (ready store) refl refl refl);
+  unheld = λ store. left_empty store (a_call ls_call) (read_and_drew first_time ten_bytes) _ (told_no_memory ls_call refl refl (used_bytes first_time _ ten_bytes (ready store) refl refl) refl refl);
+  read_unheld = λ store. left_empty store (a_call status_call) used_nothing _ (told_no_memory_to_read status_call refl refl refl refl refl);
   first_turns = (record { found = 1; left = 2; failed = false } ∷ [], refl, (refl, (λ other. absurd (true≢false (sym other))), tt));
   failed_turn = (record { found = 1; left = 1; failed = true } ∷ [], refl, (refl, (λ told. refl), tt));
   no_failed_turn = λ turns. same_turn (to_call (refused disk_fault)) turns.0 refl turns.1 turns.2;

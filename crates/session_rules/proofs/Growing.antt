@@ -43,12 +43,12 @@ settled_quiet (entry ∷ doubt) number named =
     ap (λ b. cond b (settled_entry entry ∷ filter (is_of number) (map settled_entry doubt)) (filter (is_of number) (map settled_entry doubt))) (ne_eqb 0 number (λ e. named (sym e))) ∙ settled_quiet doubt number named
 
 -- a commit that was tried had drawn its bytes
-used_by_commit : (store : KeyedStore) (journal : List Entry) (caller : Caller) (call : Call) (used : Used) (after : List Entry) (answer : Answer) → is_read call ≡ false → is_refusal answer ≡ false → Step store journal caller call used after answer → UsedSome used
+used_by_commit : (store : KeyedStore) (journal : List Entry) (caller : Caller) (call : Call) (used : Used) (after : List Entry) (answer : Answer) → is_read call ≡ false → is_refusal answer ≡ false → Step store journal caller call used after answer → UsedSome store journal call used
 used_by_commit store journal caller call used after answer writes taken (long_step _ _ _ _ r) = absurd (true≢false (sym (ap is_refusal r.answer_is) ∙ taken))
 used_by_commit store journal caller call used after answer writes taken (unknown_step _ _ _ _ r) = absurd (true≢false (sym (ap is_refusal r.answer_is) ∙ taken))
 used_by_commit store journal caller call used after answer writes taken (full_step _ _ _ _ _ _ _ r) = absurd (true≢false (sym (ap is_refusal r.answer_is) ∙ taken))
 used_by_commit store journal caller call used after answer writes taken (taken_step _ _ _ _ _ _ _ r) = absurd (true≢false (sym (ap is_refusal r.answer_is) ∙ taken))
-used_by_commit store journal caller call used after answer writes taken (append_step now drawn draft is many _ _ _ _) = used_bytes now draft drawn many is
+used_by_commit store journal caller call used after answer writes taken (append_step now drawn draft is many ready _ _ _) = used_bytes now draft drawn ready many is
 used_by_commit store journal caller call used after answer writes taken (read_step _ shows _) = absurd (true≢false (sym (shows_read store journal caller call answer shows) ∙ writes))
 
 -- the reply at the end of the journal
@@ -81,6 +81,10 @@ module _ (store : KeyedStore) (journal doubt : List Entry) (caller : Caller) (ca
   settled_alone : (left : List Entry) (answer : Answer) → TurnLeaves (settled journal doubt) left after doubt_after reply answer → Told store after caller (a_call call) (length after) used (to_call answer) [] → Turned store journal caller (a_call call) used after (call_reply reply)
   settled_alone left answer l told = replied answer l.reply_is (only_settled store journal doubt caller (a_call call) used after (to_call answer) l.journal_is told)
 
+  -- what was used at a journal that it left
+  used_after : (left : List Entry) → after ≡ left → UsedSome store left call used → UsedSome store (take (length after) after) call used
+  used_after left is some = subst (λ j. UsedSome store j call used) (sym (whole after ∙ is)) some
+
   pub turn_is_told : Turn store journal doubt caller call used after doubt_after reply → Turned store journal caller (a_call call) used after (call_reply reply)
   turn_is_told (read_turn answer is shows l) = stayed answer l (by_step journal [] answer (l.journal_is ∙ sym (append-nil journal)) (read_step is shows l.journal_is))
   turn_is_told (short_read_turn reads is l) = stayed _ l (told_no_memory_to_read call refl reads is refl refl)
@@ -91,9 +95,9 @@ module _ (store : KeyedStore) (journal doubt : List Entry) (caller : Caller) (ca
       replied answer l.reply_is (settled_turned store journal doubt caller (a_call call) used after (to_call answer) adds.added adds.after_is adds.of_caller (by_step (settled journal doubt) adds.added answer adds.after_is left))
   turn_is_told (undrawn_turn now draft ready is l) = settled_alone [] _ l (told_random_fault call draft now refl (subst (λ j. Ready store j call draft) (sym (whole after ∙ l.journal_is)) ready) is refl refl)
   turn_is_told (uncommitted_turn batch left answer writes taken step _ l) =
-      settled_alone left _ l (told_disk_fault call refl writes (used_by_commit store (settled journal doubt) caller call used (settled journal doubt ++ batch) answer writes taken step) refl refl)
-  turn_is_told (short_turn writes some l) = stayed _ l (told_no_memory call refl writes some refl refl)
-  turn_is_told (short_settled_turn writes some l) = settled_alone [] _ l (told_no_memory call refl writes some refl refl)
+      settled_alone left _ l (told_disk_fault call refl writes (used_after (settled journal doubt) l.journal_is (used_by_commit store (settled journal doubt) caller call used (settled journal doubt ++ batch) answer writes taken step)) refl refl)
+  turn_is_told (short_turn now writes is l) = stayed _ l (told_no_memory call refl writes (used_clock now is) refl refl)
+  turn_is_told (short_settled_turn writes some l) = settled_alone [] _ l (told_no_memory call refl writes (used_after (settled journal doubt) l.journal_is some) refl refl)
 
 -- ---- the same of a page
 

@@ -13,6 +13,7 @@ use Rattle.record_rules.proofs.Members.{Has}
 use Rattle.view_rules.proofs.Chains.{Has-from_Contains}
 use Rattle.step_rules.specs.Store.{KeyedStore}
 use Rattle.step_rules.specs.Step.{Ready, Step}
+use Rattle.step_rules.specs.Turn.{UsedSome}
 use Rattle.session_rules.specs.Sessions.{Asked, SessionReply, caller_of, Told, told_step, told_disk_fault, told_random_fault, told_no_memory, told_no_memory_to_read, told_bad, told_no_memory_for_bad, told_page, told_page_refused, told_page_disk_fault, told_page_no_memory, Serves, is_of, Session}
 
 module _ (store : KeyedStore) (journal : List Entry) (number : ℕ) where
@@ -77,11 +78,11 @@ module _ (store : KeyedStore) (journal : List Entry) (number : ℕ) where
         let same : take reply.front (journal ++ added) ≡ take reply.front journal = take-append-le reply.front journal added within in
         told_step c before given is (same ∙ parts) (subst (λ j. Step store before (caller_of number call) c used j given) (sym same) step) a
     told_still call asked reply used commit within (told_bad place is u a c) = told_bad place is u a c
-    told_still call asked reply used commit within (told_disk_fault c is w u a n) = told_disk_fault c is w u a n
+    told_still call asked reply used commit within (told_disk_fault c is w u a n) = told_disk_fault c is w (subst (λ j. UsedSome store j c used) (sym (take-append-le reply.front journal added within)) u) a n
     told_still call asked reply used commit within (told_random_fault c draft now is ready u a n) =
         let same : take reply.front (journal ++ added) ≡ take reply.front journal = take-append-le reply.front journal added within in
         told_random_fault c draft now is (subst (λ j. Ready store j c draft) (sym same) ready) u a n
-    told_still call asked reply used commit within (told_no_memory c is w u a n) = told_no_memory c is w u a n
+    told_still call asked reply used commit within (told_no_memory c is w u a n) = told_no_memory c is w (subst (λ j. UsedSome store j c used) (sym (take-append-le reply.front journal added within)) u) a n
     told_still call asked reply used commit within (told_no_memory_to_read c is w u a n) = told_no_memory_to_read c is w u a n
     told_still call asked reply used commit within (told_no_memory_for_bad place is u a c) = told_no_memory_for_bad place is u a c
     told_still call asked reply used commit within (told_page owner records before is parts grows u a) = told_page owner records before is (take-append-le reply.front journal added within ∙ parts) grows u a

@@ -70,9 +70,9 @@ module _ (store : KeyedStore) (journal : List Entry) (caller : Caller) (call : C
   step_draws (append_step _ _ _ is _ _ _ _ _) = ap (λ (u : Used). u.faults) is
   step_draws (read_step is _ _) = ap (λ (u : Used). u.faults) is
 
-some_drew : (used : Used) → UsedSome used → used.faults ≡ 0
-some_drew used (used_clock _ is) = ap (λ (u : Used). u.faults) is
-some_drew used (used_bytes _ _ _ _ is) = ap (λ (u : Used). u.faults) is
+some_drew : (store : KeyedStore) (journal : List Entry) (call : Call) (used : Used) → UsedSome store journal call used → used.faults ≡ 0
+some_drew store journal call used (used_clock _ is) = ap (λ (u : Used). u.faults) is
+some_drew store journal call used (used_bytes _ _ _ _ _ is) = ap (λ (u : Used). u.faults) is
 
 -- ---- failed draws
 
@@ -109,9 +109,9 @@ module _ (store : KeyedStore) (journal : List Entry) (caller : Caller) (asked : 
   told_draws : Told store journal caller asked front used answer commit → used.faults ≡ count (tells_random_fault answer)
   unfolding count
   told_draws (told_step call before given _ _ step is) = same_count 0 (to_call given) (step_draws store before caller call used _ given step) is (sym (ap count (random_outer given (step_inner store before caller call used _ given step))))
-  told_draws (told_disk_fault _ _ _ some is _) = same_count 0 _ (some_drew used some) is refl
+  told_draws (told_disk_fault call _ _ some is _) = same_count 0 _ (some_drew store _ call used some) is refl
   told_draws (told_random_fault _ _ _ _ _ u is _) = same_count 1 _ (none_used u) is refl
-  told_draws (told_no_memory _ _ _ some is _) = same_count 0 _ (some_drew used some) is refl
+  told_draws (told_no_memory call _ _ some is _) = same_count 0 _ (some_drew store _ call used some) is refl
   told_draws (told_no_memory_to_read _ _ _ u is _) = same_count 0 _ (none_used u) is refl
   told_draws (told_bad _ _ u is _) = same_count 0 _ (none_used u) is refl
   told_draws (told_no_memory_for_bad _ _ u is _) = same_count 0 _ (none_used u) is refl

@@ -1,7 +1,7 @@
 -- Worked examples: replies in bytes, with the numbers written out, and two sessions in one journal.
 use Rattle.std.specs.Prelude.{◌≡◌, ℕ, ◌-◌, ◌^◌, pos, negsuc, List, [], ◌∷◌, ◌++◌, codes, Some, None, replicate, true, false}
 use Rattle.definitions.specs.Ids.{made_id}
-use Rattle.definitions.specs.Step.{used_nothing, read_and_drew}
+use Rattle.definitions.specs.Step.{used_nothing, read_clock, read_and_drew, read_and_failed}
 use Rattle.record_rules.specs.Records.{SealedRecord, Caller, Entry, Started}
 use Rattle.record_rules.specs.Growth.{PageGap, taken_entry}
 use Rattle.record_rules.specs.Examples.{kv_record}
@@ -60,6 +60,12 @@ pub record WorkedSessions : Type 0 where
   pub no_call_told : (store : KeyedStore) → Session store [] 1 (no_call 14 ∷ []) used_nothing (record { front = 0; answer = to_call (refused (bad_request 14)) } ∷ []) []
   -- or that memory was wanting
   pub no_call_unheld : (store : KeyedStore) → Session store [] 1 (no_call 14 ∷ []) used_nothing (record { front = 0; answer = to_call (refused no_memory) } ∷ []) []
+  -- a Start may fail without a commit: the disk before it drew or after, the draw, and memory
+  pub disk_failed : (store : KeyedStore) → Session store [] 1 (a_call ls_call ∷ []) (read_clock first_time) (record { front = 0; answer = to_call (refused disk_fault) } ∷ []) []
+  pub commit_failed : (store : KeyedStore) → Session store [] 1 (a_call ls_call ∷ []) (read_and_drew first_time ten_bytes) (record { front = 0; answer = to_call (refused disk_fault) } ∷ []) []
+  pub draw_failed : (store : KeyedStore) → Session store [] 1 (a_call ls_call ∷ []) (read_and_failed first_time) (record { front = 0; answer = to_call (refused random_fault) } ∷ []) []
+  pub unheld : (store : KeyedStore) → Session store [] 1 (a_call ls_call ∷ []) (read_and_drew first_time ten_bytes) (record { front = 0; answer = to_call (refused no_memory) } ∷ []) []
+  pub read_unheld : (store : KeyedStore) → Session store [] 1 (a_call status_call ∷ []) used_nothing (record { front = 0; answer = to_call (refused no_memory) } ∷ []) []
   -- the turns of the first: it found one entry and left two
   pub first_turns : TurnsOf [] (record { front = 2; answer = to_call (began (made_id second_time ten_bytes)) } ∷ []) (record { found = 1; left = 2; failed = false } ∷ [])
   -- a fault of the disk is told after a turn that failed, and not after another one

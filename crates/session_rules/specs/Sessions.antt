@@ -44,11 +44,11 @@ pub data Told (store : KeyedStore) (journal : List Entry) (caller : Caller) (ask
   told_step : (call : Call) (before : List Entry) (given : Answer) → asked ≡ a_call call → take front journal ≡ before ++ commit → Step store before caller call used (take front journal) given → answer ≡ to_call given
       → Told store journal caller asked front used answer commit
   -- a call that writes
-  told_disk_fault : (call : Call) → asked ≡ a_call call → is_read call ≡ false → UsedSome used → answer ≡ to_call (refused disk_fault) → commit ≡ [] → Told store journal caller asked front used answer commit
+  told_disk_fault : (call : Call) → asked ≡ a_call call → is_read call ≡ false → UsedSome store (take front journal) call used → answer ≡ to_call (refused disk_fault) → commit ≡ [] → Told store journal caller asked front used answer commit
   -- where the step would have drawn
   told_random_fault : (call : Call) (draft : Draft) (now : ℕ) → asked ≡ a_call call → Ready store (take front journal) call draft → used ≡ read_and_failed now → answer ≡ to_call (refused random_fault) → commit ≡ []
       → Told store journal caller asked front used answer commit
-  told_no_memory : (call : Call) → asked ≡ a_call call → is_read call ≡ false → UsedSome used → answer ≡ to_call (refused no_memory) → commit ≡ [] → Told store journal caller asked front used answer commit
+  told_no_memory : (call : Call) → asked ≡ a_call call → is_read call ≡ false → UsedSome store (take front journal) call used → answer ≡ to_call (refused no_memory) → commit ≡ [] → Told store journal caller asked front used answer commit
   told_no_memory_to_read : (call : Call) → asked ≡ a_call call → is_read call ≡ true → used ≡ used_nothing → answer ≡ to_call (refused no_memory) → commit ≡ [] → Told store journal caller asked front used answer commit
   -- what is no call
   told_bad : (place : ℕ) → asked ≡ no_call place → used ≡ used_nothing → answer ≡ to_call (refused (bad_request place)) → commit ≡ [] → Told store journal caller asked front used answer commit

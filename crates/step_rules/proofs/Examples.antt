@@ -26,7 +26,7 @@ use Rattle.std.proofs.lemmas.Cmp.{then_total, on_total, nat_cmp_total}
 use Rattle.view_rules.specs.Views.{ShowsHistory, Dead, by_deletion, by_creation, ShowsKv, NamesAlias, ShowsAlias, origin_cmp, time_cmp}
 use Rattle.view_rules.specs.Answers.{of_all, ScopedQuery, is_found, IsScopedAnswer, SearchAnswer}
 use Rattle.view_rules.proofs.Chains.{Has-from_Contains, Contains-from_Has}
-use Rattle.step_rules.specs.Calls.{end_call, of_name, of_value, first_long, most_call_bytes}
+use Rattle.step_rules.specs.Calls.{Call, end_call, of_name, of_value, first_long, most_call_bytes}
 use Rattle.step_rules.specs.Answers.{Refusal, unknown_id, id_taken, disk_fault, no_memory, Answer, began, stored, hits, value_is, places, refused, Reply}
 use Rattle.step_rules.specs.Store.{Head, KeyedStore, sealed_record, payload_text_bytes, SealsWell}
 use Rattle.step_rules.specs.Step.{Draft, start_draft, record_draft, Drafts, start_drafts, end_drafts, delete_drafts, kv_set_drafts, alias_set_drafts, alias_delete_drafts, Unknown, end_unknown, delete_unknown, alias_unknown, draft_passes, Ready, draws, Step, long_step, unknown_step, full_step, taken_step, append_step, read_step, shows_hits, shows_value, shows_no_value, shows_places}
@@ -263,20 +263,42 @@ no_fault_told store after doubt_after front (step_turn made answer _ step leaves
     absurd cc
 no_fault_told store after doubt_after front (undrawn_turn _ draft ready _ _) = no_end_drafts store draft ready.drafts
 no_fault_told store after doubt_after front (uncommitted_turn batch _ answer _ denies step _ _) = let told = end_told store batch answer step in true≢false (sym (ap is_refusal told.1) ∙ denies)
-no_fault_told store after doubt_after front (short_turn _ _ leaves) = absurd (let same : refused disk_fault ≡ refused no_memory = ap (λ (r : Reply). r.answer) leaves.reply_is in cc)
+no_fault_told store after doubt_after front (short_turn _ _ _ leaves) = absurd (let same : refused disk_fault ≡ refused no_memory = ap (λ (r : Reply). r.answer) leaves.reply_is in cc)
 no_fault_told store after doubt_after front (short_settled_turn _ _ leaves) = absurd (let same : refused disk_fault ≡ refused no_memory = ap (λ (r : Reply). r.answer) leaves.reply_is in cc)
-
-clock_was_read : (used : Used) → UsedSome used → used ≡ used_nothing → ⊥
-clock_was_read used (used_clock now e) none = one_reading now (sym e ∙ none)
-clock_was_read used (used_bytes now _ drawn _ e) none = let same : ◌≡◌ {A = ℕ} 1 0 = ap (λ (u : Used). length u.readings) (sym e ∙ none) in omega arith
 
 some_drawn : (draft : Draft) → draws draft ≡ 9 → ⊥
 some_drawn (start_draft _ _ _ _) nine = omega arith
 some_drawn (record_draft _ _) nine = omega arith
 
-not_nine_drawn : (used : Used) → UsedSome used → length used.drawn ≡ 9 → ⊥
-not_nine_drawn used (used_clock now e) nine = absurd (let none : length used.drawn ≡ 0 = ap (λ (u : Used). length u.drawn) e in omega arith)
-not_nine_drawn used (used_bytes now draft drawn many e) nine = some_drawn draft (sym many ∙ sym (ap (λ (u : Used). length u.drawn) e) ∙ nine)
+module _ (store : KeyedStore) (journal : List Entry) (call : Call) (used : Used) where
+  clock_was_read : UsedSome store journal call used → used ≡ used_nothing → ⊥
+  clock_was_read (used_clock now e) none = one_reading now (sym e ∙ none)
+  clock_was_read (used_bytes now _ drawn _ _ e) none = let same : ◌≡◌ {A = ℕ} 1 0 = ap (λ (u : Used). length u.readings) (sym e ∙ none) in omega arith
+
+  not_nine_drawn : UsedSome store journal call used → length used.drawn ≡ 9 → ⊥
+  not_nine_drawn (used_clock now e) nine = absurd (let none : length used.drawn ≡ 0 = ap (λ (u : Used). length u.drawn) e in omega arith)
+  not_nine_drawn (used_bytes now draft drawn _ many e) nine = some_drawn draft (sym many ∙ sym (ap (λ (u : Used). length u.drawn) e) ∙ nine)
+
+-- ten bytes aren't none
+ten_drawn : {other : Used} → read_and_drew first_time ten_bytes ≡ other → length other.drawn ≡ 0 → ⊥
+ten_drawn same none = let ten : ◌≡◌ {A = ℕ} 10 0 = ap (λ (u : Used). length u.drawn) same ∙ none in omega (arith, ten)
+
+one_left : (entry : Entry) → entry ∷ [] ≡ [] → ⊥
+one_left entry same = let one : ◌≡◌ {A = ℕ} 1 0 = ap length same in omega (arith, one)
+
+not_drawn_in_doubt : (store : KeyedStore) (drawn : List ℕ) → Turn store (ls_entry ∷ []) (end_entry store drawn ∷ []) (call_of 3) ls_call (read_and_drew first_time ten_bytes) (ls_entry ∷ []) (end_entry store drawn ∷ []) (record { front = 1; answer = refused no_memory }) → ⊥
+not_drawn_in_doubt store drawn (read_turn _ e _ _) = ten_drawn e refl
+not_drawn_in_doubt store drawn (short_read_turn _ e _) = ten_drawn e refl
+not_drawn_in_doubt store drawn (unsettled_turn _ _ _ e _) = ten_drawn e refl
+not_drawn_in_doubt store drawn (step_turn _ _ _ _ leaves) = one_left _ leaves.doubt_is
+not_drawn_in_doubt store drawn (undrawn_turn _ _ _ _ leaves) = one_left _ leaves.doubt_is
+not_drawn_in_doubt store drawn (uncommitted_turn _ _ _ _ _ _ _ leaves) = absurd (let same : refused no_memory ≡ refused disk_fault = ap (λ (r : Reply). r.answer) leaves.reply_is in cc)
+not_drawn_in_doubt store drawn (short_turn _ _ e _) = ten_drawn e refl
+not_drawn_in_doubt store drawn (short_settled_turn _ _ leaves) = one_left _ leaves.doubt_is
+
+not_drawn_unready : (store : KeyedStore) → UsedSome store [] (end_call 7 (pos 0) (pos 0)) (read_and_drew first_time ten_bytes) → ⊥
+not_drawn_unready store (used_clock _ e) = ten_drawn e refl
+not_drawn_unready store (used_bytes _ draft _ ready _ _) = no_end_drafts store draft ready.drafts
 
 -- a page of no records can only be taken or want memory, where nothing is in doubt
 abbrev batch_of : Result (List Entry) PageRefusal → List Entry
@@ -327,10 +349,13 @@ doubt = record {
   not_drawn = λ store. undrawn_turn first_time _ (ls_ready store [] refl) refl (record { journal_is = refl; doubt_is = refl; reply_is = refl });
   again = λ store drawn of_example many. step_turn (ls_entry ∷ record { caller = call_of 3; event = Local (Some first_id) (end_record store drawn) } ∷ []) (stored 0) refl (ls_ends store drawn (call_of 3) of_example many) (record { journal_is = refl; doubt_is = refl; reply_is = refl });
   short_read = λ store drawn. short_read_turn refl refl (record { journal_is = refl; doubt_is = refl; reply_is = refl });
-  short = λ store drawn. short_turn refl (used_clock second_time refl) (record { journal_is = refl; doubt_is = refl; reply_is = refl });
-  short_settled = λ store drawn. short_settled_turn refl (used_bytes first_time (start_draft (codes "ls") (codes "/") (codes "s1") (codes "h:u")) ten_bytes refl refl) (record { journal_is = refl; doubt_is = refl; reply_is = refl });
-  clock_unread = λ used. clock_was_read used_nothing used refl;
-  nine_drawn = λ used. not_nine_drawn (read_and_drew first_time (take 9 ten_bytes)) used refl;
+  short = λ store drawn. short_turn second_time refl refl (record { journal_is = refl; doubt_is = refl; reply_is = refl });
+  short_settled = λ store drawn well of_example many. short_settled_turn refl
+      (used_bytes first_time (start_draft (codes "ls") (codes "/") (codes "s1") (codes "h:u")) ten_bytes (ls_ready store (ls_entry ∷ end_settled store drawn ∷ []) (room_for_more store drawn well of_example many)) refl refl) (record { journal_is = refl; doubt_is = refl; reply_is = refl });
+  clock_unread = λ store journal used. clock_was_read store journal ls_call used_nothing used refl;
+  nine_drawn = λ store journal used. not_nine_drawn store journal ls_call (read_and_drew first_time (take 9 ten_bytes)) used refl;
+  drawn_in_doubt = not_drawn_in_doubt;
+  drawn_unready = not_drawn_unready;
   no_fault = no_fault_told;
 }
 

@@ -78,7 +78,7 @@ Turn-sound store journal doubt caller call used after doubt_after reply well ask
 Turn-sound store journal doubt caller call used after doubt_after reply well asked sound doubted (uncommitted_turn batch left answer _ _ step which l) =
     let stepped = Step-sound store (settled journal doubt) caller call used (settled journal doubt ++ batch) answer well asked doubted step in
     left_sound store (settled journal doubt) left after doubt_after reply _ store.host l doubted (lost_or_left (settled journal doubt) batch left store.host doubted stepped which)
-Turn-sound store journal doubt caller call used after doubt_after reply well asked sound doubted (short_turn _ _ l) = left_sound store journal doubt after doubt_after reply _ store.host l sound doubted
+Turn-sound store journal doubt caller call used after doubt_after reply well asked sound doubted (short_turn _ _ _ l) = left_sound store journal doubt after doubt_after reply _ store.host l sound doubted
 Turn-sound store journal doubt caller call used after doubt_after reply well asked sound doubted (short_settled_turn _ _ l) = left_sound store (settled journal doubt) [] after doubt_after reply _ store.host l doubted (nothing_settled (settled journal doubt) store.host doubted)
 
 -- ---- the front, and what is added
@@ -100,5 +100,5 @@ Turn-leaves store journal doubt caller call used after doubt_after reply (step_t
     left_as journal made [] after doubt_after (map settled_entry doubt ++ adds.added) reply answer (adds.after_is ∙ append_assoc journal (map settled_entry doubt) adds.added) l
 Turn-leaves store journal doubt caller call used after doubt_after reply (undrawn_turn _ _ _ _ l) = left_as journal (settled journal doubt) [] after doubt_after (map settled_entry doubt) reply _ refl l
 Turn-leaves store journal doubt caller call used after doubt_after reply (uncommitted_turn _ left _ _ _ _ _ l) = left_as journal (settled journal doubt) left after doubt_after (map settled_entry doubt) reply _ refl l
-Turn-leaves store journal doubt caller call used after doubt_after reply (short_turn _ _ l) = left_as journal journal doubt after doubt_after [] reply _ (sym (append-nil journal)) l
+Turn-leaves store journal doubt caller call used after doubt_after reply (short_turn _ _ _ l) = left_as journal journal doubt after doubt_after [] reply _ (sym (append-nil journal)) l
 Turn-leaves store journal doubt caller call used after doubt_after reply (short_settled_turn _ _ l) = left_as journal (settled journal doubt) [] after doubt_after (map settled_entry doubt) reply _ refl l

@@ -261,10 +261,13 @@ pub record WorkedDoubt : Type 0 where
   -- memory may be wanting: a read leaves what is in doubt, and a write may have settled it
   pub short_read : (store : KeyedStore) (drawn : List ℕ) → Turn store (ls_entry ∷ []) (end_entry store drawn ∷ []) (call_of 3) status_call used_nothing (ls_entry ∷ []) (end_entry store drawn ∷ []) (record { front = 1; answer = refused no_memory })
   pub short : (store : KeyedStore) (drawn : List ℕ) → Turn store (ls_entry ∷ []) (end_entry store drawn ∷ []) (call_of 3) ls_call (read_clock second_time) (ls_entry ∷ []) (end_entry store drawn ∷ []) (record { front = 1; answer = refused no_memory })
-  pub short_settled : (store : KeyedStore) (drawn : List ℕ) → Turn store (ls_entry ∷ []) (end_entry store drawn ∷ []) (call_of 3) ls_call (read_and_drew first_time ten_bytes) (ls_entry ∷ end_settled store drawn ∷ []) [] (record { front = 2; answer = refused no_memory })
+  pub short_settled : (store : KeyedStore) (drawn : List ℕ) → SealsWell store → OfExample store → length drawn ≡ 106 → Turn store (ls_entry ∷ []) (end_entry store drawn ∷ []) (call_of 3) ls_call (read_and_drew first_time ten_bytes) (ls_entry ∷ end_settled store drawn ∷ []) [] (record { front = 2; answer = refused no_memory })
   -- but it has read the clock then, and drawn all bytes or none
-  pub clock_unread : UsedSome used_nothing → ⊥
-  pub nine_drawn : UsedSome (read_and_drew first_time (take 9 ten_bytes)) → ⊥
+  pub clock_unread : (store : KeyedStore) (journal : List Entry) → UsedSome store journal ls_call used_nothing → ⊥
+  pub nine_drawn : (store : KeyedStore) (journal : List Entry) → UsedSome store journal ls_call (read_and_drew first_time (take 9 ten_bytes)) → ⊥
+  -- it doesn't draw before it has settled, nor where it is refused: nothing with the id 7 runs
+  pub drawn_in_doubt : (store : KeyedStore) (drawn : List ℕ) → Turn store (ls_entry ∷ []) (end_entry store drawn ∷ []) (call_of 3) ls_call (read_and_drew first_time ten_bytes) (ls_entry ∷ []) (end_entry store drawn ∷ []) (record { front = 1; answer = refused no_memory }) → ⊥
+  pub drawn_unready : (store : KeyedStore) → UsedSome store [] (end_call 7 (pos 0) (pos 0)) (read_and_drew first_time ten_bytes) → ⊥
   -- no fault is told of a call that appends nothing, where nothing is in doubt
   pub no_fault : (store : KeyedStore) (after doubt_after : List Entry) (front : ℕ) → Turn store [] [] (call_of 1) (end_call 7 (pos 0) (pos 0)) (read_clock first_time) after doubt_after (record { front = front; answer = refused disk_fault }) → ⊥
 

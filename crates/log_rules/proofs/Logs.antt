@@ -92,13 +92,18 @@ front_more front host events batch is opened = record {
       ∙ ap (λ (l : List ℕ). header_bytes host ++ l) (ap (λ (l : List ℕ). flat_map batch_bytes is.batches ++ l) (sym (append-nil (batch_bytes batch))) ∙ sym (flat_map-append batch_bytes is.batches (batch ∷ [])));
 }
 
+pub open_gate_is_front : (front : List ℕ) (host gate : ℕ) (journal more : List Entry) → IsLogFront front host (events_of journal) → IsBatch (events_of more) → gate ≢ 0
+    → IsLogFront (front ++ batch_bytes (record { gate = gate; events = events_of more })) host (events_of (journal ++ more))
+open_gate_is_front front host gate journal more is batch opened =
+    subst (λ (events : List Event). IsLogFront (front ++ batch_bytes (record { gate = gate; events = events_of more })) host events) (sym (map-append (λ (e : Entry). e.event) journal more))
+    (front_more front host (events_of journal) (record { gate = gate; events = events_of more }) is (record { gate = opened; batch_events = batch }))
+
 pub open_gate_adds : (front behind : List ℕ) (host gate : ℕ) (journal more : List Entry) → IsLogFront front host (events_of journal) → IsBatch (events_of more) → Sound (journal ++ more) host → gate ≢ 0
     → StandsFor (front ++ batch_bytes (record { gate = gate; events = events_of more }) ++ 0 ∷ behind) host (journal ++ more)
 open_gate_adds front behind host gate journal more is batch sound opened = record {
   front = front ++ batch_bytes (record { gate = gate; events = events_of more });
   behind = behind;
-  opened = subst (λ (events : List Event). IsLogFront (front ++ batch_bytes (record { gate = gate; events = events_of more })) host events) (sym (map-append (λ (e : Entry). e.event) journal more))
-      (front_more front host (events_of journal) (record { gate = gate; events = events_of more }) is (record { gate = opened; batch_events = batch }));
+  opened = open_gate_is_front front host gate journal more is batch opened;
   bytes_are = refl;
   sound = sound;
 }

@@ -1,17 +1,16 @@
--- What a crash leaves at each moment of an append.
+-- The bytes of an append, and what its end leaves.
 use Rattle.std.proofs.Common.{◌≡◌, ◌≢◌, ℕ, zero, suc, ◌+◌, ◌<◌, ◌≤◌, ◌⊎◌, inl, inr, List, [], ◌∷◌, ◌++◌, length, get_or, take, drop, refl, sym, ◌∙◌, ap, subst, arith, append_assoc, length-append}
 use Rattle.std.proofs.lemmas.List.{take_at, drop_at, get_or_append_left}
 use Rattle.std.proofs.lemmas.Bool.{cases_eq}
 use Rattle.std.specs.List.{AllByRecursion}
-use Rattle.disk_rules.specs.Disk.{Range, Disk, IsWithin, IsWritten, KeepsSynced, LeftBy, Leaves, IsDisk}
-use Rattle.disk_rules.specs.Calls.{Write, Sync, overwritten, Reaches, AllDone}
+use Rattle.disk_rules.specs.Disk.{Range, Disk, IsWithin, IsWritten, KeepsSynced, Leaves}
+use Rattle.disk_rules.specs.Calls.{overwritten, AllDone}
 use Rattle.disk_rules.specs.Append.{append_calls, Begins, IsAsBefore, IsWithBatch}
-use Rattle.disk_rules.proofs.Calls.{left_keeps}
 
 -- ---- bytes that begin alike
 
 -- bytes that agree with a list as far as it goes begin with it
-begins_alike : (front bytes : List ℕ) → length front ≤ length bytes → ((k : ℕ) → k < length front → get_or bytes k 0 ≡ get_or front k 0) → Begins front bytes
+pub begins_alike : (front bytes : List ℕ) → length front ≤ length bytes → ((k : ℕ) → k < length front → get_or bytes k 0 ≡ get_or front k 0) → Begins front bytes
 begins_alike [] bytes long same = (bytes, refl)
 begins_alike (x ∷ front) [] long same = absurd (omega arith)
 begins_alike (x ∷ front) (y ∷ bytes) long same =
@@ -20,7 +19,7 @@ begins_alike (x ∷ front) (y ∷ bytes) long same =
     (later.0, λ i. head i ∷ later.1 i)
 
 -- what keeps the synced bytes begins with those before the first written range
-kept_front : (front behind : List ℕ) (written : List Range) (left : List ℕ) → KeepsSynced (front ++ behind) written left → ((k : ℕ) → k < length front → IsWritten k written → ⊥) → Begins front left
+pub kept_front : (front behind : List ℕ) (written : List Range) (left : List ℕ) → KeepsSynced (front ++ behind) written left → ((k : ℕ) → k < length front → IsWritten k written → ⊥) → Begins front left
 kept_front front behind written left keeps outside =
     let long = length-append front behind in
     begins_alike front left (omega (arith, keeps.no_shorter, long)) (λ k below. keeps.elsewhere k (omega (arith, long)) (outside k below) ∙ get_or_append_left front behind 0 k below)
@@ -82,76 +81,6 @@ by_gate front payload left gate begins =
       | inl shut ↦ inl ((payload ++ 0 ∷ []) ++ begins.0, begins.1 ∙ ap (λ (g : ℕ). (front ++ g ∷ (payload ++ 0 ∷ [])) ++ begins.0) shut ∙ append_assoc front (0 ∷ (payload ++ 0 ∷ [])) begins.0 ∙ sym (append_assoc front (0 ∷ []) ((payload ++ 0 ∷ []) ++ begins.0)))
       | inr is_open ↦ inr (gate, is_open, begins)
     ]
-
-module _ (front behind payload : List ℕ) (old : Disk) (is : IsDisk old) (shows : old.shows ≡ front ++ 0 ∷ behind) (none : old.written ≡ []) where
-  synced_is : old.synced ≡ (front ++ 0 ∷ []) ++ behind
-  synced_is = sym (is.still none) ∙ shows ∙ sym (append_assoc front (0 ∷ []) behind)
-
-  -- while the batch is written, and until it is synced
-  in_first : (disk : Disk) (left : List ℕ) → disk.synced ≡ old.synced → disk.written ≡ record { at = length front + 1; count = length (payload ++ 0 ∷ []) } ∷ old.written → Leaves disk left → IsAsBefore front left
-  in_first disk left synced written is_left =
-      let range : Range = record { at = length front + 1; count = length (payload ++ 0 ∷ []) } in
-      let keeps = left_keeps range old disk left synced written is_left in
-      let kept : KeepsSynced ((front ++ 0 ∷ []) ++ behind) (range ∷ []) left = subst (λ (b : List ℕ). KeepsSynced b (range ∷ []) left) synced_is (subst (λ (ranges : List Range). KeepsSynced old.synced (range ∷ ranges) left) none keeps) in
-      kept_front (front ++ 0 ∷ []) behind (range ∷ []) left kept (λ k below w. elim w [
-        | inl inside ↦ let low = inside.0 in let counts = length-append front (0 ∷ []) in absurd (omega arith)
-        | inr nothing ↦ nothing
-      ])
-
-  -- before any call
-  at_first : (left : List ℕ) → Leaves old left → IsAsBefore front left
-  at_first left is_left =
-      let shown : left ≡ old.shows = subst (λ (ranges : List Range). LeftBy old.synced ranges old.shows left) none is_left in
-      (behind, shown ∙ shows ∙ sym (append_assoc front (0 ∷ []) behind))
-
--- while the gate is written, and until it is synced
-in_second : (front payload rest : List ℕ) (disk : Disk) (left : List ℕ) → disk.synced ≡ (front ++ 0 ∷ (payload ++ 0 ∷ [])) ++ rest → disk.written ≡ record { at = length front; count = 1 } ∷ [] → Leaves disk left → IsAsBefore front left ⊎ IsWithBatch front payload left
-in_second front payload rest disk left synced written is_left =
-    let all = (front ++ 0 ∷ (payload ++ 0 ∷ [])) ++ rest in
-    let staged : Disk = record { synced = all; written = []; shows = all } in
-    let range : Range = record { at = length front; count = 1 } in
-    let begins = kept_but_one front 0 (payload ++ 0 ∷ []) rest (range ∷ []) left (gate_range_alone front (range ∷ []) (refl, tt)) (left_keeps range staged disk left synced written is_left) in
-    by_gate front payload left begins.0 begins.1
-
--- with the gate written
-after_gate : (front payload rest : List ℕ) (mid now : Disk) (left : List ℕ)
-    → mid ≡ record { synced = (front ++ 0 ∷ (payload ++ 0 ∷ [])) ++ rest; written = record { at = length front; count = 1 } ∷ []; shows = overwritten ((front ++ 0 ∷ (payload ++ 0 ∷ [])) ++ rest) (length front) (1 ∷ []) }
-    → Reaches (Sync ∷ []) mid now → Leaves now left → IsAsBefore front left ⊎ IsWithBatch front payload left
-after_gate front payload rest mid now left is (inl same) is_left = in_second front payload rest now left (ap (λ (d : Disk). d.synced) (same ∙ is)) (ap (λ (d : Disk). d.written) (same ∙ is)) is_left
-after_gate front payload rest mid now left is (inr (inl same)) is_left = in_second front payload rest now left (ap (λ (d : Disk). d.synced) (same ∙ is)) (ap (λ (d : Disk). d.written) (same ∙ is)) is_left
-after_gate front payload rest mid now left is (inr (inr later)) is_left =
-    let shown : left ≡ mid.shows = subst (λ (d : Disk). Leaves d left) (later.2 ∙ later.1) is_left in
-    inr (1, (λ e. absurd (omega arith)), (rest, shown ∙ ap (λ (d : Disk). d.shows) is ∙ gate_opened front 0 (payload ++ 0 ∷ []) rest))
-
--- with the batch synced behind the closed gate
-after_sync : (front payload rest : List ℕ) (mid now : Disk) (left : List ℕ)
-    → mid ≡ record { synced = (front ++ 0 ∷ (payload ++ 0 ∷ [])) ++ rest; written = []; shows = (front ++ 0 ∷ (payload ++ 0 ∷ [])) ++ rest }
-    → Reaches (Write (length front) (1 ∷ []) ∷ Sync ∷ []) mid now → Leaves now left → IsAsBefore front left ⊎ IsWithBatch front payload left
-after_sync front payload rest mid now left is (inl same) is_left = by_gate front payload left 0 (rest, subst (λ (d : Disk). Leaves d left) (same ∙ is) is_left)
-after_sync front payload rest mid now left is (inr (inl broken)) is_left =
-    in_second front payload rest now left (broken.synced ∙ ap (λ (d : Disk). d.synced) is) (broken.written ∙ ap (λ (d : Disk). record { at = length front; count = 1 } ∷ d.written) is) is_left
-after_sync front payload rest mid now left is (inr (inr later)) is_left =
-    after_gate front payload rest later.0 now left (later.1 ∙ ap (λ (d : Disk). record { synced = d.synced; written = record { at = length front; count = 1 } ∷ d.written; shows = overwritten d.shows (length front) (1 ∷ []) }) is) later.2 is_left
-
-module _ (front behind payload : List ℕ) (old : Disk) (is : IsDisk old) (shows : old.shows ≡ front ++ 0 ∷ behind) (none : old.written ≡ []) where
-  -- with the batch written
-  after_batch : (mid now : Disk) (left : List ℕ)
-      → mid ≡ record { synced = old.synced; written = record { at = length front + 1; count = length (payload ++ 0 ∷ []) } ∷ old.written; shows = overwritten old.shows (length front + 1) (payload ++ 0 ∷ []) }
-      → Reaches (Sync ∷ Write (length front) (1 ∷ []) ∷ Sync ∷ []) mid now → Leaves now left → IsAsBefore front left ⊎ IsWithBatch front payload left
-  after_batch mid now left begun (inl same) is_left = inl (in_first front behind payload old is shows none now left (ap (λ (d : Disk). d.synced) (same ∙ begun)) (ap (λ (d : Disk). d.written) (same ∙ begun)) is_left)
-  after_batch mid now left begun (inr (inl same)) is_left = inl (in_first front behind payload old is shows none now left (ap (λ (d : Disk). d.synced) (same ∙ begun)) (ap (λ (d : Disk). d.written) (same ∙ begun)) is_left)
-  after_batch mid now left begun (inr (inr later)) is_left =
-      let shown : mid.shows ≡ (front ++ 0 ∷ (payload ++ 0 ∷ [])) ++ drop (length front + 1 + length (payload ++ 0 ∷ [])) old.shows = ap (λ (d : Disk). d.shows) begun ∙ placed front behind payload old.shows shows in
-      after_sync front payload (drop (length front + 1 + length (payload ++ 0 ∷ [])) old.shows) later.0 now left (later.1 ∙ (λ i. record { synced = shown i; written = []; shows = shown i })) later.2 is_left
-
-  by_moment : (now : Disk) (left : List ℕ) → Reaches (append_calls (length front) payload) old now → Leaves now left → IsAsBefore front left ⊎ IsWithBatch front payload left
-  by_moment now left (inl same) is_left = inl (at_first front behind payload old is shows none left (subst (λ (d : Disk). Leaves d left) same is_left))
-  by_moment now left (inr (inl broken)) is_left = inl (in_first front behind payload old is shows none now left broken.synced broken.written is_left)
-  by_moment now left (inr (inr later)) is_left = after_batch later.0 now left later.1 later.2 is_left
-
-pub append_is_all_or_nothing : (front behind payload : List ℕ) (old now : Disk) (left : List ℕ) → IsDisk old → old.shows ≡ front ++ 0 ∷ behind → old.written ≡ []
-    → Reaches (append_calls (length front) payload) old now → Leaves now left → IsAsBefore front left ⊎ IsWithBatch front payload left
-append_is_all_or_nothing front behind payload old now left is shows none reaches is_left = by_moment front behind payload old is shows none now left reaches is_left
 
 pub append_is_kept : (front behind payload : List ℕ) (old new : Disk) (left : List ℕ) → old.shows ≡ front ++ 0 ∷ behind → AllDone (append_calls (length front) payload) old new → Leaves new left → IsWithBatch front payload left
 append_is_kept front behind payload old new left shows done is_left =

@@ -64,7 +64,7 @@ keeps_more synced range ranges bytes keeps = record {
   elsewhere = λ offset below outside. keeps.elsewhere offset below (λ inside. outside (inr inside));
 }
 
-keeps_itself : (synced : List ℕ) (ranges : List Range) → KeepsSynced synced ranges synced
+pub keeps_itself : (synced : List ℕ) (ranges : List Range) → KeepsSynced synced ranges synced
 keeps_itself synced ranges = record { no_shorter = omega arith; elsewhere = λ offset below outside. refl }
 
 wrote_is_disk : (range : Range) (old new : Disk) → IsDisk old → Wrote range old new → IsDisk new

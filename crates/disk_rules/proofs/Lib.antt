@@ -2,4 +2,5 @@ pub mod Calls
 pub mod Moments
 pub mod Append
 pub mod Settle
+pub mod Settled
 pub mod Examples

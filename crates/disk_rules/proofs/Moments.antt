@@ -1,5 +1,5 @@
 -- What a history may have left.
-use Rattle.std.proofs.Common.{ℕ, ◌≤◌, inl, inr, List, [], ◌∷◌, length, arith}
+use Rattle.std.proofs.Common.{ℕ, ◌≤◌, ◌⊎◌, inl, inr, List, [], ◌∷◌, ◌++◌, length, arith}
 use Rattle.disk_rules.specs.Disk.{Disk, Leaves, Since}
 
 pub since_grows : (t : ℕ) (disk : Disk) (history : List Disk) (bytes : List ℕ) → Since t history bytes → Since t (disk ∷ history) bytes
@@ -21,3 +21,11 @@ now_alone disk history bytes (inr before) = absurd (none_later (length history) 
 
 pub since_now : (disk : Disk) (history : List Disk) (bytes : List ℕ) → (Since (length history) (disk ∷ history) bytes → Leaves disk bytes) × (Leaves disk bytes → Since (length history) (disk ∷ history) bytes)
 since_now disk history bytes = (now_alone disk history bytes, λ left. inl (omega arith, left))
+
+pub since_parts : (t : ℕ) (later earlier : List Disk) (bytes : List ℕ) → Since t (later ++ earlier) bytes → Since 0 later bytes ⊎ Since t earlier bytes
+since_parts t [] earlier bytes since = inr since
+since_parts t (disk ∷ later) earlier bytes (inl now) = inl (inl (omega arith, now.1))
+since_parts t (disk ∷ later) earlier bytes (inr before) = elim (since_parts t later earlier bytes before) [
+  | inl here ↦ inl (inr here)
+  | inr there ↦ inr there
+]

@@ -2,7 +2,7 @@
 use Rattle.std.proofs.Common.{◌≡◌, ℕ, ◌+◌, ◌≤◌, ◌⊎◌, inl, inr, List, [], ◌∷◌, ◌++◌, length, refl, sym, ◌∙◌, ap, subst, arith, length-append}
 use Rattle.std.specs.List.{AllByRecursion}
 use Rattle.disk_rules.specs.Disk.{Disk, KeepsSynced, Leaves, IsDisk}
-use Rattle.disk_rules.specs.Calls.{Write, Sync, overwritten, Wrote, Reaches, AllDone}
+use Rattle.disk_rules.specs.Calls.{Write, Sync, overwritten, Wrote, Done, Reaches, AllDone}
 use Rattle.disk_rules.specs.Append.{settle_calls, stage_calls, StopsAtGate, IsInDoubt, Begins, IsAsBefore, IsWithBatch}
 use Rattle.disk_rules.proofs.Calls.{wrote, was_left, calls_keep_disk}
 use Rattle.disk_rules.proofs.Append.{kept_but_one, gate_range_alone, placed, gate_opened, by_gate}
@@ -52,19 +52,23 @@ some_gate : (front payload : List ℕ) (disk : Disk) (left : List ℕ) → IsInD
 some_gate front payload disk left doubt keeps =
     kept_but_one front 0 (payload ++ 0 ∷ []) doubt.staged.0 disk.written left (gate_range_alone front disk.written doubt.gate_alone) (subst (λ (l : List ℕ). KeepsSynced l disk.written left) doubt.staged.1 keeps)
 
-doubt_leaves : (front payload : List ℕ) (disk : Disk) (left : List ℕ) → IsInDoubt front payload disk → Leaves disk left → IsAsBefore front left ⊎ IsWithBatch front payload left
+pub doubt_leaves : (front payload : List ℕ) (disk : Disk) (left : List ℕ) → IsInDoubt front payload disk → Leaves disk left → IsAsBefore front left ⊎ IsWithBatch front payload left
 doubt_leaves front payload disk left doubt is_left =
     let begins = some_gate front payload disk left doubt (was_left disk.synced disk.written disk.shows left doubt.is_disk.still is_left) in
     by_gate front payload left begins.0 begins.1
 
+-- with the gate written, the log with the batch is shown
+pub opened_shows : (front payload : List ℕ) (old opened : Disk) → IsInDoubt front payload old → Done (Write (length front) (1 ∷ [])) old opened → Begins (front ++ 1 ∷ (payload ++ 0 ∷ [])) opened.shows
+opened_shows front payload old opened doubt done =
+    let shown = some_gate front payload old old.shows doubt doubt.is_disk.keeps in
+    (shown.1.0, ap (λ (d : Disk). d.shows) done ∙ ap (λ (l : List ℕ). overwritten l (length front) (1 ∷ [])) shown.1.1 ∙ gate_opened front shown.0 (payload ++ 0 ∷ []) shown.1.0)
+
 pub settle_is_kept : (front payload : List ℕ) (old new : Disk) (left : List ℕ) → IsInDoubt front payload old → AllDone (settle_calls (length front)) old new → Leaves new left → IsWithBatch front payload left
 settle_is_kept front payload old new left doubt done is_left =
     let synced = done.2 in
-    let shown = some_gate front payload old old.shows doubt doubt.is_disk.keeps in
-    let gate : done.0.shows ≡ (front ++ 1 ∷ (payload ++ 0 ∷ [])) ++ shown.1.0 =
-    ap (λ (d : Disk). d.shows) done.1 ∙ ap (λ (l : List ℕ). overwritten l (length front) (1 ∷ [])) shown.1.1 ∙ gate_opened front shown.0 (payload ++ 0 ∷ []) shown.1.0 in
+    let shown = opened_shows front payload old done.0 doubt done.1 in
     let one : left ≡ done.0.shows = subst (λ (d : Disk). Leaves d left) (synced.2 ∙ synced.1) is_left in
-    (1, (λ e. absurd (omega arith)), (shown.1.0, one ∙ gate))
+    (1, (λ e. absurd (omega arith)), (shown.0, one ∙ shown.1))
 
 pub settle_is_all_or_nothing : (front payload : List ℕ) (old now : Disk) (left : List ℕ) → IsInDoubt front payload old → Reaches (settle_calls (length front)) old now → Leaves now left → IsAsBefore front left ⊎ IsWithBatch front payload left
 settle_is_all_or_nothing front payload old now left doubt (inl same) is_left = doubt_leaves front payload now left (subst (IsInDoubt front payload) (sym same) doubt) is_left

@@ -1,8 +1,9 @@
 -- The laws of disks, as statements. Each is the contract of the function of its name.
 use Rattle.std.specs.Prelude.{◌≡◌, ℕ, ◌<◌, ◌≤◌, ◌⊎◌, List, [], ◌∷◌, ◌++◌, length, get_or}
+use Rattle.std.specs.List.{AllByRecursion}
 use Rattle.disk_rules.specs.Disk.{Disk, IsWithin, Leaves, LeavesOnly, IsDisk, Since}
 use Rattle.disk_rules.specs.Calls.{DiskCall, Write, Sync, MayCall, Done, Broken, Reaches, AllDone}
-use Rattle.disk_rules.specs.Append.{append_calls, settle_calls, stage_calls, StopsAtGate, IsInDoubt, IsAsBefore, IsWithBatch}
+use Rattle.disk_rules.specs.Append.{append_calls, settle_calls, stage_calls, StopsAtGate, IsSettled, IsInDoubt, IsAsBefore, IsWithBatch}
 
 -- what is shown is one of the bytes left
 abbrev pub ShowsIsLeft : Type 0
@@ -42,14 +43,39 @@ SinceEarlier = (t u : ℕ) (history : List Disk) (bytes : List ℕ) → t ≤ u 
 abbrev pub SinceNow : Type 0
 SinceNow = (disk : Disk) (history : List Disk) (bytes : List ℕ) → (Since (length history) (disk ∷ history) bytes → Leaves disk bytes) × (Leaves disk bytes → Since (length history) (disk ∷ history) bytes)
 
--- at each moment of an append, whatever fails, each image is the log as before or with the batch
+-- what was left in a history of two parts was left in the later part, or in the earlier one
+abbrev pub SinceParts : Type 0
+SinceParts = (t : ℕ) (later earlier : List Disk) (bytes : List ℕ) → Since t (later ++ earlier) bytes → Since 0 later bytes ⊎ Since t earlier bytes
+
+-- at rest a log is settled behind the front of its closed gate
+abbrev pub RestIsSettled : Type 0
+RestIsSettled = (front behind : List ℕ) (disk : Disk) → IsDisk disk → disk.written ≡ [] → disk.shows ≡ front ++ 0 ∷ behind → IsSettled front disk
+
+-- and so it is where that much was synced, and whatever was written since begins behind the gate
+abbrev pub BehindGateIsSettled : Type 0
+BehindGateIsSettled = (front : List ℕ) (disk : Disk) → IsDisk disk → IsAsBefore front disk.synced → AllByRecursion (λ range. length front < range.at) disk.written → IsSettled front disk
+
+-- a settled log stays so through the first two calls of an append, whatever fails
+abbrev pub StagingStaysSettled : Type 0
+StagingStaysSettled = (front payload : List ℕ) (old now : Disk) → IsSettled front old → Reaches (stage_calls (length front) payload) old now → IsSettled front now
+
+-- at each moment of an append to a settled log, whatever fails, each image is the log as before or with the batch
 abbrev pub AppendIsAllOrNothing : Type 0
-AppendIsAllOrNothing = (front behind payload : List ℕ) (old now : Disk) (left : List ℕ) → IsDisk old → old.shows ≡ front ++ 0 ∷ behind → old.written ≡ []
+AppendIsAllOrNothing = (front payload : List ℕ) (old now : Disk) (left : List ℕ) → IsSettled front old
     → Reaches (append_calls (length front) payload) old now → Leaves now left → IsAsBefore front left ⊎ IsWithBatch front payload left
 
 -- and after an append that succeeded it is the log with the batch
 abbrev pub AppendIsKept : Type 0
 AppendIsKept = (front behind payload : List ℕ) (old new : Disk) (left : List ℕ) → old.shows ≡ front ++ 0 ∷ behind → AllDone (append_calls (length front) payload) old new → Leaves new left → IsWithBatch front payload left
+
+-- the disk is at rest then, and the log settled behind a front that has the batch
+abbrev pub AppendEndsSettled : Type 0
+AppendEndsSettled = (front payload : List ℕ) (old new : Disk) → IsSettled front old → AllDone (append_calls (length front) payload) old new → (new.written ≡ []) × IsSettled (front ++ 1 ∷ payload) new
+
+-- at each moment of an append the log is settled as before, or the batch is in doubt, or the log is settled with the batch
+abbrev pub AppendIsSettledOrInDoubt : Type 0
+AppendIsSettledOrInDoubt = (front payload : List ℕ) (old now : Disk) → IsSettled front old
+    → Reaches (append_calls (length front) payload) old now → IsSettled front now ⊎ (IsInDoubt front payload now ⊎ IsSettled (front ++ 1 ∷ payload) now)
 
 -- with its first two calls done an append is in doubt, and stays so where the write of the gate or the sync behind it fails, however often
 abbrev pub StagedIsInDoubt : Type 0
@@ -65,3 +91,7 @@ SettleIsAllOrNothing = (front payload : List ℕ) (old now : Disk) (left : List 
 -- and after it was settled it is the log with the batch
 abbrev pub SettleIsKept : Type 0
 SettleIsKept = (front payload : List ℕ) (old new : Disk) (left : List ℕ) → IsInDoubt front payload old → AllDone (settle_calls (length front)) old new → Leaves new left → IsWithBatch front payload left
+
+-- the disk is at rest then, and the log settled behind a front that has the batch
+abbrev pub SettleEndsSettled : Type 0
+SettleEndsSettled = (front payload : List ℕ) (old new : Disk) → IsInDoubt front payload old → AllDone (settle_calls (length front)) old new → (new.written ≡ []) × IsSettled (front ++ 1 ∷ payload) new

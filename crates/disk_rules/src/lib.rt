@@ -1,7 +1,7 @@
 //! The words for a disk: what it shows, what a crash now may leave, and what a crash since a moment may
 //! have left (`Disk`); what a write and a sync do to it, also where they fail or are cut short (`Calls`);
-//! how a batch is appended so that one byte decides (`Append`); and the laws that hold of these words
-//! alone.
+//! how a batch is appended so that one byte decides, and when one is in doubt or none is (`Append`); and the
+//! laws that hold of these words alone.
 //!
 //! A disk is seen as the bytes of its last sync that succeeded, the ranges that were written since, and
 //! what reads give. Until the next sync that succeeds, a crash may leave any bytes in those ranges and
@@ -11,7 +11,7 @@
 //! no other one.
 #![tactic(auto)]
 
-ghost use Rattle.disk_rules.specs.Laws.{ShowsIsLeft, CallsKeepDisk, SyncLeavesShown, FailedSyncLeavesAll, WritesStayInRange, WritesMayBeLost, SinceGrows, SinceEarlier, SinceNow, AppendIsAllOrNothing, AppendIsKept, StagedIsInDoubt, DoubtStays, SettleIsAllOrNothing, SettleIsKept};
+ghost use Rattle.disk_rules.specs.Laws.{ShowsIsLeft, CallsKeepDisk, SyncLeavesShown, FailedSyncLeavesAll, WritesStayInRange, WritesMayBeLost, SinceGrows, SinceEarlier, SinceNow, SinceParts, RestIsSettled, BehindGateIsSettled, StagingStaysSettled, AppendIsAllOrNothing, AppendIsKept, AppendEndsSettled, AppendIsSettledOrInDoubt, StagedIsInDoubt, DoubtStays, SettleIsAllOrNothing, SettleIsKept, SettleEndsSettled};
 ghost use Rattle.disk_rules.specs.Examples.{WorkedDisk, WorkedCalls, WorkedAppend};
 
 /// What a disk shows is one of the bytes that a crash now may leave.
@@ -61,7 +61,30 @@ pub fn since_now()
     ensures { SinceNow }
 {}
 
-/// At each moment of an append to a disk at rest, also within a call and after one that failed, every
+/// What a history of two parts may have left since a moment of the earlier part, the later part may have
+/// left, or the earlier one since that moment.
+pub fn since_parts()
+    ensures { SinceParts }
+{}
+
+/// A log at rest is settled: what a crash leaves begins with the log up to its closed gate.
+pub fn rest_is_settled()
+    ensures { RestIsSettled }
+{}
+
+/// A log is settled too where that much was synced, and each range that was written since begins behind
+/// the gate.
+pub fn behind_gate_is_settled()
+    ensures { BehindGateIsSettled }
+{}
+
+/// A settled log stays settled at each moment of an append until its gate is written. So it is after an
+/// append whose first write failed, or whose first sync failed, and the next append may begin there.
+pub fn staging_stays_settled()
+    ensures { StagingStaysSettled }
+{}
+
+/// At each moment of an append to a settled log, also within a call and after one that failed, every
 /// image is the old log up to its closed gate, or the log with the batch behind an open gate.
 pub fn append_is_all_or_nothing()
     ensures { AppendIsAllOrNothing }
@@ -70,6 +93,17 @@ pub fn append_is_all_or_nothing()
 /// After an append whose four calls succeeded, every image is the log with the batch.
 pub fn append_is_kept()
     ensures { AppendIsKept }
+{}
+
+/// After such an append the disk is at rest, and the log is settled behind a front that has the batch.
+pub fn append_ends_settled()
+    ensures { AppendEndsSettled }
+{}
+
+/// At each moment of an append to a settled log, it is settled as before, or the batch is in doubt, or the
+/// log is settled with the batch.
+pub fn append_is_settled_or_in_doubt()
+    ensures { AppendIsSettledOrInDoubt }
 {}
 
 /// With its first two calls done an append is in doubt: the batch stands synced behind the closed gate.
@@ -91,6 +125,11 @@ pub fn settle_is_all_or_nothing()
 /// After a batch in doubt was settled, every image is the log with the batch.
 pub fn settle_is_kept()
     ensures { SettleIsKept }
+{}
+
+/// After it was settled the disk is at rest, and the log is settled behind a front that has the batch.
+pub fn settle_ends_settled()
+    ensures { SettleEndsSettled }
 {}
 
 /// One byte written over three, worked out: what a crash may leave before the sync and after it, and

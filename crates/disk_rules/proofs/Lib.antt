@@ -4,3 +4,4 @@ pub mod Append
 pub mod Settle
 pub mod Settled
 pub mod Examples
+pub mod Retries

@@ -3,3 +3,4 @@ pub mod Calls
 pub mod Append
 pub mod Laws
 pub mod Examples
+pub mod Retries

@@ -13,6 +13,7 @@
 
 ghost use Rattle.disk_rules.specs.Laws.{ShowsIsLeft, CallsKeepDisk, SyncLeavesShown, FailedSyncLeavesAll, WritesStayInRange, WritesMayBeLost, SinceGrows, SinceEarlier, SinceNow, SinceParts, RestIsSettled, BehindGateIsSettled, StagingStaysSettled, AppendIsAllOrNothing, AppendIsKept, AppendEndsSettled, AppendIsSettledOrInDoubt, StagedIsInDoubt, DoubtStays, SettleIsAllOrNothing, SettleIsKept, SettleEndsSettled};
 ghost use Rattle.disk_rules.specs.Examples.{WorkedDisk, WorkedCalls, WorkedAppend};
+ghost use Rattle.disk_rules.specs.Retries.{WorkedRetry};
 
 /// What a disk shows is one of the bytes that a crash now may leave.
 pub fn shows_is_left()
@@ -147,4 +148,10 @@ pub fn worked_calls()
 /// An append of one byte behind a log of one byte, worked out: its moments, and what it leaves.
 pub fn worked_append()
     ensures { WorkedAppend }
+{}
+
+/// An append that failed at its first sync and another one that succeeds, worked out: what a crash may
+/// leave between the two, within the second one and after it.
+pub fn worked_retry()
+    ensures { WorkedRetry }
 {}

@@ -64,7 +64,7 @@ pub since_earlier_one_of_two : (t : ℕ) (front : List ℕ) (host : ℕ) (journa
 since_earlier_one_of_two t front host journal more old moments earlier left may reached held since =
     elim (since_parts t moments earlier left since) [
       | inl later ↦ since_one_of_two front host journal more old moments left may reached later
-      | inr before ↦ inl (since_held_log_stands t front host journal earlier left held before)
+      | inr before ↦ inl (since_held_log_stands t front host journal earlier left held before.1)
     ]
 
 pub staging_holds_log : (front : List ℕ) (host : ℕ) (journal : List Entry) (payload : List ℕ) (old now : Disk) → HoldsLog front host journal old → Reaches (stage_calls (length front) payload) old now → HoldsLog front host journal now

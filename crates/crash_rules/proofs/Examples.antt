@@ -1,20 +1,24 @@
 -- The examples, computed.
-use Rattle.std.proofs.Common.{◌≡◌, ℕ, ◌≤◌, inl, inr, List, [], ◌∷◌, length, get_or, refl, ap, arith}
-use Rattle.disk_rules.specs.Disk.{Range, IsDisk}
+use Rattle.std.proofs.Common.{◌≡◌, ℕ, ◌≤◌, inl, inr, List, [], ◌∷◌, ◌++◌, length, get_or, refl, ap, arith}
+use Rattle.disk_rules.specs.Disk.{IsDisk, Leaves}
+use Rattle.disk_rules.proofs.Append.{same_elsewhere}
+use Rattle.disk_rules.proofs.Settled.{rest_is_settled}
+use Rattle.record_rules.specs.Records.{Started}
 use Rattle.record_rules.specs.Journal.{Sound}
 use Rattle.record_rules.proofs.Soundness.{empty_sound}
-use Rattle.log_rules.specs.Log.{header_bytes, StandsFor}
-use Rattle.log_rules.specs.Examples.{started_ls, ls_entry, new_log}
+use Rattle.log_rules.specs.Log.{header_bytes, payload_bytes, StandsFor}
+use Rattle.log_rules.specs.Examples.{started_ls, ls_entry, new_log, ls_log}
 use Rattle.log_rules.proofs.Examples.{empty_front, ls_batch, ls_sound, first_batch}
 use Rattle.log_rules.proofs.Logs.{one_journal}
 use Rattle.crash_rules.specs.Laws.{IsBeforeOrAfter}
-use Rattle.crash_rules.specs.Examples.{resting, WorkedCrash}
+use Rattle.crash_rules.specs.Examples.{resting, in_doubt, WorkedCrash}
 
 rests : (bytes : List ℕ) → IsDisk (resting bytes)
 rests bytes = record { still = λ none. refl; keeps = record { no_shorter = omega arith; elsewhere = λ offset below outside. refl } }
 
-one_range : (range : Range) (ranges : List Range) → range ∷ ranges ≡ [] → ⊥
-one_range range ranges none = let h = ap (λ (l : List Range). length l) none in omega arith
+-- a crash may leave the gate of the batch in doubt open
+gate_opened : Leaves in_doubt (ls_log 1)
+gate_opened = record { no_shorter = omega arith; elsewhere = λ offset below outside. same_elsewhere (header_bytes 1) 1 0 (payload_bytes (Started started_ls ∷ []) ++ 0 ∷ []) offset (λ e. outside (inl (omega (arith, e), omega (arith, e)))) }
 
 -- `ls` can't be started twice with one id
 not_again : Sound (ls_entry ∷ ls_entry ∷ []) 1 → ⊥
@@ -29,11 +33,11 @@ other_host (inr after) = let h = (one_journal (new_log 2) 1 2 (ls_entry ∷ []) 
 
 pub crash : WorkedCrash
 crash = record {
-  may_append = record { behind = []; is_disk = rests (new_log 1); at_rest = refl; shows = refl; opened = empty_front 1 (omega arith); batch = ls_batch; sound = ls_sound };
-  unsynced = λ may. one_range (record { at = 32; count = 1 }) [] may.at_rest;
-  never_synced = λ may. let h : ◌≡◌ {A = ℕ} 33 0 = ap (λ (l : List ℕ). length l) (may.is_disk.still refl) in omega arith;
-  open_gate = λ may. let h : ◌≡◌ {A = ℕ} 1 0 = ap (λ (l : List ℕ). get_or l 32 9) may.shows in omega arith;
-  no_front = λ may. let h : ◌≡◌ {A = ℕ} 9 0x41 = ap (λ (l : List ℕ). get_or l 0 9) may.opened.bytes_are in omega arith;
+  may_append = record { log = record { settled = rest_is_settled (header_bytes 1) [] (resting (new_log 1)) (rests (new_log 1)) refl refl; opened = empty_front 1 (omega arith); sound = empty_sound 1 }; batch = ls_batch; sound = ls_sound };
+  unsynced = λ may. let begins = may.log.settled.images (ls_log 1) gate_opened in let h : ◌≡◌ {A = ℕ} 1 0 = ap (λ (l : List ℕ). get_or l 32 9) begins.1 in omega arith;
+  never_synced = λ may. let h : ◌≡◌ {A = ℕ} 33 0 = ap (λ (l : List ℕ). length l) (may.log.settled.is_disk.still refl) in omega arith;
+  open_gate = λ may. let begins = may.log.settled.images (ls_log 1) refl in let h : ◌≡◌ {A = ℕ} 1 0 = ap (λ (l : List ℕ). get_or l 32 9) begins.1 in omega arith;
+  no_front = λ may. let h : ◌≡◌ {A = ℕ} 9 0x41 = ap (λ (l : List ℕ). get_or l 0 9) may.log.opened.bytes_are in omega arith;
   nothing = λ disk may. let h : 1 ≤ 0 = may.batch.some in omega arith;
   again = λ front disk may. not_again may.sound;
   may_settle = record {

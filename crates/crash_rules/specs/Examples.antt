@@ -16,7 +16,7 @@ in_doubt = record { synced = ls_log 0; written = record { at = 32; count = 1 } �
 pub record WorkedCrash : Type 0 where
   -- the start of `ls` may be appended to a new log
   pub may_append : MayAppend (header_bytes 1) 1 [] (ls_entry ∷ []) (resting (new_log 1))
-  -- not while something isn't synced, nor where the log was shown but never synced
+  -- not while a batch is in doubt, whose gate a crash may leave open, nor where the log was shown but never synced
   pub unsynced : MayAppend (header_bytes 1) 1 [] (ls_entry ∷ []) in_doubt → ⊥
   pub never_synced : MayAppend (header_bytes 1) 1 [] (ls_entry ∷ []) (record { synced = []; written = []; shows = new_log 1 }) → ⊥
   -- not behind an open gate, nor behind bytes that are no front of a log

@@ -43,9 +43,9 @@ SinceEarlier = (t u : ℕ) (history : List Disk) (bytes : List ℕ) → t ≤ u 
 abbrev pub SinceNow : Type 0
 SinceNow = (disk : Disk) (history : List Disk) (bytes : List ℕ) → (Since (length history) (disk ∷ history) bytes → Leaves disk bytes) × (Leaves disk bytes → Since (length history) (disk ∷ history) bytes)
 
--- what was left in a history of two parts was left in the later part, or in the earlier one
+-- what was left in a history of two parts was left in the later part, or in the earlier one where that has moment number t
 abbrev pub SinceParts : Type 0
-SinceParts = (t : ℕ) (later earlier : List Disk) (bytes : List ℕ) → Since t (later ++ earlier) bytes → Since 0 later bytes ⊎ Since t earlier bytes
+SinceParts = (t : ℕ) (later earlier : List Disk) (bytes : List ℕ) → Since t (later ++ earlier) bytes → Since 0 later bytes ⊎ ((t < length earlier) × Since t earlier bytes)
 
 -- at rest a log is settled behind the front of its closed gate
 abbrev pub RestIsSettled : Type 0

@@ -62,8 +62,9 @@ pub fn since_now()
     ensures { SinceNow }
 {}
 
-/// What a history of two parts may have left since a moment of the earlier part, the later part may have
-/// left, or the earlier one since that moment.
+/// What a history of two parts may have left since a moment, the later part may have left, or the earlier
+/// one since that moment, where it has that moment. So since the first moment of the later part there is
+/// what that part may have left.
 pub fn since_parts()
     ensures { SinceParts }
 {}

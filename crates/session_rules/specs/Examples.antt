@@ -8,7 +8,7 @@ use Rattle.record_rules.specs.Examples.{kv_record}
 use Rattle.step_rules.specs.Calls.{status_call}
 use Rattle.step_rules.specs.Answers.{too_long, unknown_id, unknown_name, full, random_fault, id_taken, disk_fault, no_memory, bad_request, began, stored, hits, value_is, keys, aliases, places, refused}
 use Rattle.step_rules.specs.Store.{KeyedStore}
-use Rattle.step_rules.specs.PageTurns.{took, page_refused, page_faulted, page_unheld}
+use Rattle.step_rules.specs.PageTurns.{took, page_refused, page_faulted, page_no_memory}
 use Rattle.step_rules.specs.Examples.{first_time, second_time, ten_bytes, ls_call, two_records}
 use Rattle.session_rules.specs.Bytes.{reply_bytes}
 use Rattle.session_rules.specs.Sessions.{a_call, no_call, a_page, to_call, to_page, caller_of, Session, random_faults}
@@ -86,7 +86,7 @@ worker_journal = started_by 1 (made_id second_time ten_bytes) second_time ∷ wo
 pub record WorkedPages : Type 0 where
   -- A Start and then five pages: one that is taken, the same again, one with a gap before it, and two that the disk and memory fail.
   pub session : (store : KeyedStore) → Session store [] 1 (a_call ls_call ∷ a_page 5 two_records ∷ a_page 5 two_records ∷ a_page 5 (kv_record 3 1003 ∷ []) ∷ a_page 5 two_records ∷ a_page 5 two_records ∷ []) (read_and_drew second_time ten_bytes)
-      (record { front = 1; answer = to_call (began (made_id second_time ten_bytes)) } ∷ record { front = 3; answer = to_page (took 2) } ∷ record { front = 3; answer = to_page (took 0) } ∷ record { front = 3; answer = to_page (page_refused (PageGap 0 2)) } ∷ record { front = 3; answer = to_page page_faulted } ∷ record { front = 3; answer = to_page page_unheld } ∷ [])
+      (record { front = 1; answer = to_call (began (made_id second_time ten_bytes)) } ∷ record { front = 3; answer = to_page (took 2) } ∷ record { front = 3; answer = to_page (took 0) } ∷ record { front = 3; answer = to_page (page_refused (PageGap 0 2)) } ∷ record { front = 3; answer = to_page page_faulted } ∷ record { front = 3; answer = to_page page_no_memory } ∷ [])
       worker_journal
 
 -- ---- what is read of payloads

@@ -8,7 +8,7 @@ use Rattle.step_rules.specs.Answers.{Answer, refused, random_fault, disk_fault, 
 use Rattle.step_rules.specs.Store.{KeyedStore}
 use Rattle.step_rules.specs.Step.{Draft, Ready, Step}
 use Rattle.step_rules.specs.Turn.{UsedSome}
-use Rattle.step_rules.specs.PageTurns.{PageAnswer, took, page_refused, page_faulted, page_unheld}
+use Rattle.step_rules.specs.PageTurns.{PageAnswer, took, page_refused, page_faulted, page_no_memory}
 
 -- a request: a call, or bytes that are none, with the place of the first wrong item, or a page of records for an owner
 pub data Asked : Type 0 where
@@ -59,7 +59,7 @@ pub data Told (store : KeyedStore) (journal : List Entry) (caller : Caller) (ask
   told_page_refused : (owner : ℕ) (records : List SealedRecord) (refusal : PageRefusal) → asked ≡ a_page owner records → grow (take front journal) caller owner records ≡ Err refusal → used ≡ used_nothing → answer ≡ to_page (page_refused refusal) → commit ≡ []
       → Told store journal caller asked front used answer commit
   told_page_disk_fault : (owner : ℕ) (records : List SealedRecord) → asked ≡ a_page owner records → used ≡ used_nothing → answer ≡ to_page page_faulted → commit ≡ [] → Told store journal caller asked front used answer commit
-  told_page_no_memory : (owner : ℕ) (records : List SealedRecord) → asked ≡ a_page owner records → used ≡ used_nothing → answer ≡ to_page page_unheld → commit ≡ [] → Told store journal caller asked front used answer commit
+  told_page_no_memory : (owner : ℕ) (records : List SealedRecord) → asked ≡ a_page owner records → used ≡ used_nothing → answer ≡ to_page page_no_memory → commit ≡ [] → Told store journal caller asked front used answer commit
 
 -- one reply: what was used and committed for it, within what was used and committed from here on
 pub record One (store : KeyedStore) (journal : List Entry) (number from call : ℕ) (asked : Asked) (used : Used) (reply : SessionReply) (commits : List Entry) : Type 0 where

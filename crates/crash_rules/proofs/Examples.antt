@@ -1,5 +1,7 @@
 -- The examples, computed.
 use Rattle.std.proofs.Common.{◌≡◌, ℕ, ◌≤◌, inl, inr, List, [], ◌∷◌, ◌++◌, length, get_or, refl, ap, arith}
+use Rattle.definitions.specs.Examples.{ls}
+use Rattle.record_rules.specs.Examples.{ls_entry}
 use Rattle.disk_rules.specs.Disk.{IsDisk, Leaves}
 use Rattle.disk_rules.proofs.Append.{same_elsewhere}
 use Rattle.disk_rules.proofs.Settled.{rest_is_settled}
@@ -7,7 +9,7 @@ use Rattle.record_rules.specs.Records.{Started}
 use Rattle.record_rules.specs.Journal.{Sound}
 use Rattle.record_rules.proofs.Soundness.{empty_sound}
 use Rattle.log_rules.specs.Log.{header_bytes, payload_bytes, StandsFor}
-use Rattle.log_rules.specs.Examples.{started_ls, ls_entry, new_log, ls_log}
+use Rattle.log_rules.specs.Examples.{new_log, ls_log}
 use Rattle.log_rules.proofs.Examples.{empty_front, ls_batch, ls_sound, first_batch}
 use Rattle.log_rules.proofs.Logs.{one_journal}
 use Rattle.crash_rules.specs.Laws.{IsBeforeOrAfter}
@@ -18,11 +20,11 @@ rests bytes = record { still = λ none. refl; keeps = record { no_shorter = omeg
 
 -- a crash may leave the gate of the batch in doubt open
 gate_opened : Leaves in_doubt (ls_log 1)
-gate_opened = record { no_shorter = omega arith; elsewhere = λ offset below outside. same_elsewhere (header_bytes 1) 1 0 (payload_bytes (Started started_ls ∷ []) ++ 0 ∷ []) offset (λ e. outside (inl (omega (arith, e), omega (arith, e)))) }
+gate_opened = record { no_shorter = omega arith; elsewhere = λ offset below outside. same_elsewhere (header_bytes 1) 1 0 (payload_bytes (Started ls ∷ []) ++ 0 ∷ []) offset (λ e. outside (inl (omega (arith, e), omega (arith, e)))) }
 
 -- `ls` can't be started twice with one id
 not_again : Sound (ls_entry ∷ ls_entry ∷ []) 1 → ⊥
-not_again sound = sound.started_apart 0 1 started_ls started_ls (omega arith) refl refl refl
+not_again sound = sound.started_apart 0 1 ls ls (omega arith) refl refl refl
 
 new_stands : StandsFor (new_log 2) 2 []
 new_stands = record { front = header_bytes 2; behind = []; opened = empty_front 2 (omega arith); bytes_are = refl; sound = empty_sound 2 }

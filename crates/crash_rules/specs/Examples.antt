@@ -1,8 +1,9 @@
 -- Worked examples: the log of a new store, at rest, and with a batch in doubt in which one command was started.
 use Rattle.std.specs.Prelude.{ℕ, List, [], ◌∷◌}
+use Rattle.record_rules.specs.Examples.{ls_entry}
 use Rattle.disk_rules.specs.Disk.{Disk}
 use Rattle.log_rules.specs.Log.{header_bytes}
-use Rattle.log_rules.specs.Examples.{ls_entry, new_log, ls_log}
+use Rattle.log_rules.specs.Examples.{new_log, ls_log}
 use Rattle.crash_rules.specs.Laws.{MayAppend, MaySettle, IsBeforeOrAfter}
 
 -- these bytes, synced

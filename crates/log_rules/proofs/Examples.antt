@@ -8,12 +8,14 @@ use Rattle.std.proofs.lemmas.Str.Ascii.{IsAscii-nil}
 use Rattle.std.proofs.lemmas.Option.{none-some}
 use Rattle.std.proofs.lemmas.Bool.{true≢false}
 use Rattle.definitions.specs.Spelling.{TextFits}
+use Rattle.definitions.specs.Examples.{first_id, ls}
+use Rattle.record_rules.specs.Examples.{ls_entry}
 use Rattle.record_rules.specs.Records.{Event, Started, Local, Taken}
 use Rattle.record_rules.specs.Journal.{events_of, Sound}
 use Rattle.record_rules.proofs.Soundness.{empty_sound, Sound-push}
 use Rattle.log_rules.specs.Body.{HasEventBytes, IsBatch, event_bytes, body_bytes}
 use Rattle.log_rules.specs.Log.{batch_bytes, header_bytes, IsLogFront, StandsFor, DamagedAt, HoldsGoodBatch, payload_bytes}
-use Rattle.log_rules.specs.Examples.{worked_id, started_ls, ls_entry, ended_ls, ended_entry, started_empty, ls_log, WorkedBodies, WorkedFields, WorkedNewLog, WorkedFirstBatch}
+use Rattle.log_rules.specs.Examples.{ended_ls, ended_entry, started_empty, ls_log, WorkedBodies, WorkedFields, WorkedNewLog, WorkedFirstBatch}
 use Rattle.log_rules.proofs.Fields.{number_4, body_apart}
 
 pub empty_front : (host : ℕ) → host < 2 ^ 128 → IsLogFront (header_bytes host) host []
@@ -35,7 +37,7 @@ session_text = record { utf8 = IsUtf8-from_ascii (codes "s1") (ascii_cons 0x73 (
 hostname_text : TextFits (codes "h:u")
 hostname_text = record { utf8 = IsUtf8-from_ascii (codes "h:u") (ascii_cons 0x68 (0x3a ∷ 0x75 ∷ []) (omega arith) (ascii_cons 0x3a (0x75 ∷ []) (omega arith) (ascii_cons 0x75 [] (omega arith) IsAscii-nil))); short = omega arith }
 
-pub ls_batch : IsBatch (Started started_ls ∷ [])
+pub ls_batch : IsBatch (Started ls ∷ [])
 ls_batch = record {
   some = omega arith;
   few = omega arith;
@@ -53,11 +55,11 @@ ls_sound = Sound-push [] ls_entry 1 (empty_sound 1) (record {
   held_fits = refl;
 })
 
-ls_front : (gate : ℕ) → gate ≢ 0 → IsLogFront (header_bytes 1 ++ batch_bytes (record { gate = gate; events = Started started_ls ∷ [] })) 1 (Started started_ls ∷ [])
-ls_front gate opened = record { host_fits = omega arith; batches = record { gate = gate; events = Started started_ls ∷ [] } ∷ []; opened = (record { gate = opened; batch_events = ls_batch }, tt); events_are = refl; bytes_are = refl }
+ls_front : (gate : ℕ) → gate ≢ 0 → IsLogFront (header_bytes 1 ++ batch_bytes (record { gate = gate; events = Started ls ∷ [] })) 1 (Started ls ∷ [])
+ls_front gate opened = record { host_fits = omega arith; batches = record { gate = gate; events = Started ls ∷ [] } ∷ []; opened = (record { gate = opened; batch_events = ls_batch }, tt); events_are = refl; bytes_are = refl }
 
 pub ls_stands : (gate : ℕ) → gate ≢ 0 → StandsFor (ls_log gate) 1 (ls_entry ∷ [])
-ls_stands gate opened = record { front = header_bytes 1 ++ batch_bytes (record { gate = gate; events = Started started_ls ∷ [] }); behind = []; opened = ls_front gate opened; bytes_are = refl; sound = ls_sound }
+ls_stands gate opened = record { front = header_bytes 1 ++ batch_bytes (record { gate = gate; events = Started ls ∷ [] }); behind = []; opened = ls_front gate opened; bytes_are = refl; sound = ls_sound }
 
 ended_batch : IsBatch (ended_ls ∷ [])
 ended_batch = record {
@@ -86,10 +88,10 @@ ended_sound = Sound-push (ls_entry ∷ []) ended_entry 1 ls_sound (record {
   held_fits = refl;
 })
 
-ended_front : IsLogFront (header_bytes 1 ++ batch_bytes (record { gate = 1; events = Started started_ls ∷ [] }) ++ batch_bytes (record { gate = 7; events = ended_ls ∷ [] })) 1 (Started started_ls ∷ ended_ls ∷ [])
+ended_front : IsLogFront (header_bytes 1 ++ batch_bytes (record { gate = 1; events = Started ls ∷ [] }) ++ batch_bytes (record { gate = 7; events = ended_ls ∷ [] })) 1 (Started ls ∷ ended_ls ∷ [])
 ended_front = record {
   host_fits = omega arith;
-  batches = record { gate = 1; events = Started started_ls ∷ [] } ∷ record { gate = 7; events = ended_ls ∷ [] } ∷ [];
+  batches = record { gate = 1; events = Started ls ∷ [] } ∷ record { gate = 7; events = ended_ls ∷ [] } ∷ [];
   opened = (record { gate = λ e. absurd (omega arith); batch_events = ls_batch }, (record { gate = λ e. absurd (omega arith); batch_events = ended_batch }, tt));
   events_are = refl;
   bytes_are = refl;
@@ -131,11 +133,11 @@ no_such_event good =
     no_kind_9 good.events (drop 42 (ls_log 1)) (good.gate ∷ good.behind) few (ap (λ (l : List ℕ). drop 4 l) good.bytes_are)
 
 -- `ls` can't be started twice with one id
-not_twice : HoldsGoodBatch (drop 33 (ls_log 1)) 1 (Started started_ls ∷ []) → ⊥
+not_twice : HoldsGoodBatch (drop 33 (ls_log 1)) 1 (Started ls ∷ []) → ⊥
 not_twice good =
-    let same = body_apart (Started started_ls ∷ []) good.events (0 ∷ []) (good.gate ∷ good.behind) ls_batch good.batch (ap (λ (l : List ℕ). drop 4 l) good.bytes_are) in
-    let twice : events_of good.sound.journal ≡ Started started_ls ∷ Started started_ls ∷ [] = good.sound.events_are ∙ ap (λ (events : List Event). Started started_ls ∷ events) (sym same.0) in
-    good.sound.sound.started_apart 0 1 started_ls started_ls (omega arith) (ap (λ (events : List Event). slice_get events 0) twice) (ap (λ (events : List Event). slice_get events 1) twice) refl
+    let same = body_apart (Started ls ∷ []) good.events (0 ∷ []) (good.gate ∷ good.behind) ls_batch good.batch (ap (λ (l : List ℕ). drop 4 l) good.bytes_are) in
+    let twice : events_of good.sound.journal ≡ Started ls ∷ Started ls ∷ [] = good.sound.events_are ∙ ap (λ (events : List Event). Started ls ∷ events) (sym same.0) in
+    good.sound.sound.started_apart 0 1 ls ls (omega arith) (ap (λ (events : List Event). slice_get events 0) twice) (ap (λ (events : List Event). slice_get events 1) twice) refl
 
 empty_text : TextFits []
 empty_text = record { utf8 = IsUtf8-from_ascii [] IsAscii-nil; short = omega arith }
@@ -183,7 +185,7 @@ pub new_store : WorkedNewLog
 new_store = record {
   bytes = refl;
   count = refl;
-  stands = record { front = header_bytes worked_id; behind = []; opened = empty_front worked_id (omega arith); bytes_are = refl; sound = empty_sound worked_id };
+  stands = record { front = header_bytes first_id; behind = []; opened = empty_front first_id (omega arith); bytes_are = refl; sound = empty_sound first_id };
   fault = refl;
   no_magic = refl;
   other_magic = refl;
@@ -220,15 +222,15 @@ first_batch = record {
   stands = ls_stands 1 (λ e. absurd (omega arith));
   other_gate = refl;
   stands_too = ls_stands 7 (λ e. absurd (omega arith));
-  stands_closed = record { front = header_bytes 1; behind = payload_bytes (Started started_ls ∷ []) ++ 0 ∷ []; opened = empty_front 1 (omega arith); bytes_are = refl; sound = empty_sound 1 };
-  stands_ended = record { front = header_bytes 1 ++ batch_bytes (record { gate = 1; events = Started started_ls ∷ [] }) ++ batch_bytes (record { gate = 7; events = ended_ls ∷ [] }); behind = []; opened = ended_front; bytes_are = refl; sound = ended_sound };
+  stands_closed = record { front = header_bytes 1; behind = payload_bytes (Started ls ∷ []) ++ 0 ∷ []; opened = empty_front 1 (omega arith); bytes_are = refl; sound = empty_sound 1 };
+  stands_ended = record { front = header_bytes 1 ++ batch_bytes (record { gate = 1; events = Started ls ∷ [] }) ++ batch_bytes (record { gate = 7; events = ended_ls ∷ [] }); behind = []; opened = ended_front; bytes_are = refl; sound = ended_sound };
   damaged = damaged_at_first (0 ∷ 0 ∷ 0 ∷ 0x36 ∷ drop 37 (ls_log 1)) too_long;
   cut = damaged_at_first (take 57 (drop 33 (ls_log 1))) no_next_gate;
   unknown_kind = damaged_at_first (take 8 (drop 33 (ls_log 1)) ++ 9 ∷ drop 42 (ls_log 1)) no_such_event;
   repeated = record {
     host = 1;
-    before = Started started_ls ∷ [];
-    front = header_bytes 1 ++ batch_bytes (record { gate = 1; events = Started started_ls ∷ [] });
+    before = Started ls ∷ [];
+    front = header_bytes 1 ++ batch_bytes (record { gate = 1; events = Started ls ∷ [] });
     gate = 1;
     rest = drop 33 (ls_log 1);
     opened = ls_front 1 (λ e. absurd (omega arith));

@@ -3,20 +3,11 @@ use Rattle.std.specs.Prelude.{◌≡◌, ℕ, List, [], ◌∷◌, ◌++◌, len
 use Rattle.std.specs.Str.{IsUtf8}
 use Rattle.definitions.specs.Spelling.{TextFits}
 use Rattle.definitions.specs.Journal.{StartedRecord}
+use Rattle.definitions.specs.Examples.{first_id, ls}
+use Rattle.record_rules.specs.Examples.{ls_entry}
 use Rattle.record_rules.specs.Records.{SealedRecord, Entry, Event, Started, Local, Taken}
 use Rattle.log_rules.specs.Body.{HasEventBytes, event_bytes, body_bytes, IsBatch}
 use Rattle.log_rules.specs.Log.{NotALog, header_bytes, batch_bytes, StandsFor, DamagedAt, header_fault}
-
--- the id 018bcfe5-6800-7001-8203-040506070809
-abbrev pub worked_id : ℕ
-worked_id = 0x018bcfe5680070018203040506070809
-
--- `ls` in `/`, session `s1`, host and user `h:u`, started at 2023-11-14 22:13:20 UTC
-abbrev pub started_ls : StartedRecord
-started_ls = record { id = worked_id; timestamp = 1700000000000000000; command = codes "ls"; cwd = codes "/"; session = codes "s1"; hostname = codes "h:u" }
-
-abbrev pub ls_entry : Entry
-ls_entry = record { caller = record { number = 1; call = 1; settled_for = 0 }; event = Started started_ls }
 
 -- the log of a new store
 abbrev pub new_log : ℕ → List ℕ
@@ -24,18 +15,18 @@ new_log host = header_bytes host ++ 0 ∷ []
 
 -- that log with one batch, in which `ls` was started, behind this gate
 abbrev pub ls_log : (gate : ℕ) → List ℕ
-ls_log gate = header_bytes 1 ++ batch_bytes (record { gate = gate; events = Started started_ls ∷ [] }) ++ 0 ∷ []
+ls_log gate = header_bytes 1 ++ batch_bytes (record { gate = gate; events = Started ls ∷ [] }) ++ 0 ∷ []
 
 -- the record of this host in which `ls` ended
 abbrev pub ended_ls : Event
-ended_ls = Local (Some worked_id) (record { id = 0xa1; idx = 0; host = 1; host_name = []; timestamp = 0xa4; version = codes "v0"; tag = codes "history"; sealed = []; wrapped = [] })
+ended_ls = Local (Some first_id) (record { id = 0xa1; idx = 0; host = 1; host_name = []; timestamp = 0xa4; version = codes "v0"; tag = codes "history"; sealed = []; wrapped = [] })
 
 abbrev pub ended_entry : Entry
 ended_entry = record { caller = record { number = 1; call = 2; settled_for = 0 }; event = ended_ls }
 
 -- the log in which that came in a second batch, behind another open gate
 abbrev pub ended_log : List ℕ
-ended_log = header_bytes 1 ++ batch_bytes (record { gate = 1; events = Started started_ls ∷ [] }) ++ batch_bytes (record { gate = 7; events = ended_ls ∷ [] }) ++ 0 ∷ []
+ended_log = header_bytes 1 ++ batch_bytes (record { gate = 1; events = Started ls ∷ [] }) ++ batch_bytes (record { gate = 7; events = ended_ls ∷ [] }) ++ 0 ∷ []
 
 -- the log of `ls` with an open gate and another length in bytes 33 to 36
 abbrev pub ls_log_with_length : List ℕ → List ℕ
@@ -92,10 +83,10 @@ pub record WorkedFields : Type 0 where
   pub wrapped_above : (owner : ℕ) (r : SealedRecord) → (TextFits r.wrapped → ⊥) → HasEventBytes (Taken owner r) → ⊥
 
 pub record WorkedNewLog : Type 0 where
-  pub bytes : new_log worked_id ≡ 0x41 ∷ 0x54 ∷ 0x55 ∷ 0x4c ∷ 0x4f ∷ 0x47 ∷ 0x30 ∷ 0x31 ∷ 0x01 ∷ 0x8b ∷ 0xcf ∷ 0xe5 ∷ 0x68 ∷ 0x00 ∷ 0x70 ∷ 0x01 ∷ 0x82 ∷ 0x03 ∷ 0x04 ∷ 0x05 ∷ 0x06 ∷ 0x07 ∷ 0x08 ∷ 0x09 ∷ 0 ∷ 0 ∷ 0 ∷ 0 ∷ 0 ∷ 0 ∷ 0 ∷ 0 ∷ 0 ∷ []
-  pub count : length (new_log worked_id) ≡ 33
-  pub stands : StandsFor (new_log worked_id) worked_id []
-  pub fault : header_fault (new_log worked_id) ≡ None
+  pub bytes : new_log first_id ≡ 0x41 ∷ 0x54 ∷ 0x55 ∷ 0x4c ∷ 0x4f ∷ 0x47 ∷ 0x30 ∷ 0x31 ∷ 0x01 ∷ 0x8b ∷ 0xcf ∷ 0xe5 ∷ 0x68 ∷ 0x00 ∷ 0x70 ∷ 0x01 ∷ 0x82 ∷ 0x03 ∷ 0x04 ∷ 0x05 ∷ 0x06 ∷ 0x07 ∷ 0x08 ∷ 0x09 ∷ 0 ∷ 0 ∷ 0 ∷ 0 ∷ 0 ∷ 0 ∷ 0 ∷ 0 ∷ 0 ∷ []
+  pub count : length (new_log first_id) ≡ 33
+  pub stands : StandsFor (new_log first_id) first_id []
+  pub fault : header_fault (new_log first_id) ≡ None
   -- the places of what can't be read
   pub no_magic : header_fault [] ≡ Some 0
   pub other_magic : header_fault (0x42 ∷ drop 1 (new_log 1)) ≡ Some 0

@@ -6,37 +6,38 @@ use Rattle.std.proofs.lemmas.Str.{IsUtf8-from_is_utf8}
 use Rattle.std.specs.Str.{is_utf8, chars}
 use Rattle.definitions.specs.Ids.{id_text}
 use Rattle.definitions.specs.Spelling.{int_64, TextFits}
+use Rattle.definitions.specs.Examples.{ls_ended}
 use Rattle.payload_rules.specs.Items.{bin_8, bin_32, bin_head, shortest_bin, an_integer, a_text, an_array, a_bin}
 use Rattle.payload_rules.specs.Payloads.{Payload, HistoryCreate, KvSet, tag_of, SpellsPayload, PayloadOf, TimeFits, HistoryFits, HistoryTextsFit, written_history, written_payload}
-use Rattle.payload_rules.specs.Examples.{ls, ls_payload, WorkedCreation, WorkedItems, WorkedPayloads, WorkedRanges}
+use Rattle.payload_rules.specs.Examples.{ls_payload, WorkedCreation, WorkedItems, WorkedPayloads, WorkedRanges}
 use Rattle.payload_rules.proofs.Items.{first_items}
 use Rattle.payload_rules.proofs.Payloads.{payloads_apart}
 use Rattle.payload_rules.proofs.Written.{written_spelled}
 
 -- ---- a command that ended
 
-ls_fits : HistoryFits ls
+ls_fits : HistoryFits ls_ended
 ls_fits = record { id = omega arith; timestamp = omega arith; duration = record { sfits = omega arith }; exit = record { sfits = omega arith }; deleted_at = tt }
 
 text_fits : (text : List ℕ) → is_utf8 text ≡ true → length text < 2 ^ 32 → TextFits text
 text_fits text utf8 short = record { utf8 = IsUtf8-from_is_utf8 text utf8; short = short }
 
-ls_texts : HistoryTextsFit ls
+ls_texts : HistoryTextsFit ls_ended
 unfolding is_utf8 chars lib.Utf8.encode id_text
 ls_texts = record {
   command = text_fits (codes "ls") refl (omega arith);
   cwd = text_fits (codes "/") refl (omega arith);
   session = text_fits (codes "s1") refl (omega arith);
   hostname = text_fits (codes "h:u") refl (omega arith);
-  held = let len : length (written_history ls) ≡ 64 = refl in omega arith;
+  held = let len : length (written_history ls_ended) ≡ 64 = refl in omega arith;
 }
 
-ls_written : written_payload (HistoryCreate ls) ≡ ls_payload
+ls_written : written_payload (HistoryCreate ls_ended) ≡ ls_payload
 unfolding id_text
 ls_written = refl
 
-ls_spelled : PayloadOf (codes "history") (codes "v0") ls_payload (HistoryCreate ls)
-ls_spelled = subst (λ (bytes : List ℕ). PayloadOf (codes "history") (codes "v0") bytes (HistoryCreate ls)) ls_written (written_spelled (HistoryCreate ls) ls_fits ls_texts)
+ls_spelled : PayloadOf (codes "history") (codes "v0") ls_payload (HistoryCreate ls_ended)
+ls_spelled = subst (λ (bytes : List ℕ). PayloadOf (codes "history") (codes "v0") bytes (HistoryCreate ls_ended)) ls_written (written_spelled (HistoryCreate ls_ended) ls_fits ls_texts)
 
 lengths_differ : ◌≡◌ {A = ℕ} 68 69 → ⊥
 lengths_differ e = omega arith
@@ -46,7 +47,7 @@ other_version e = cc
 
 nothing_behind : (byte : ℕ) (payload : Payload) → PayloadOf (codes "history") (codes "v0") (ls_payload ++ byte ∷ []) payload → ⊥
 nothing_behind byte payload other =
-    let same = payloads_apart (codes "history") (codes "v0") ls_payload (ls_payload ++ byte ∷ []) (byte ∷ []) [] (HistoryCreate ls) payload ls_spelled other (sym (append-nil (ls_payload ++ byte ∷ []))) in
+    let same = payloads_apart (codes "history") (codes "v0") ls_payload (ls_payload ++ byte ∷ []) (byte ∷ []) [] (HistoryCreate ls_ended) payload ls_spelled other (sym (append-nil (ls_payload ++ byte ∷ []))) in
     lengths_differ (ap (λ (l : List ℕ). length l) same.0)
 
 -- a key's payload begins with an array, and this one with an integer

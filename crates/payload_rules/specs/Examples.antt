@@ -3,12 +3,9 @@ use Rattle.std.specs.Prelude.{◌≡◌, ℕ, pos, negsuc, List, [], ◌∷◌, 
 use Rattle.std.specs.Str.{IsUtf8}
 use Rattle.definitions.specs.Journal.{HistoryRecord}
 use Rattle.definitions.specs.Spelling.{SpellsInteger, TextFits, written_integer}
+use Rattle.definitions.specs.Examples.{ls_ended}
 use Rattle.payload_rules.specs.Items.{SpellsBin, written_bin}
 use Rattle.payload_rules.specs.Payloads.{Payload, HistoryCreate, HistoryDelete, KvSet, AliasSet, AliasDelete, tag_of, PayloadFits, PayloadOf, written_history, written_payload, TextsFit}
-
--- `ls` in `/`, session `s1`, on `h:u`, ended after 1,000 nanoseconds with status 0
-abbrev pub ls : HistoryRecord
-ls = record { id = 0x018bcfe5680070018203040506070809; timestamp = 1700000000000000000; duration = pos 1000; exit = pos 0; command = codes "ls"; cwd = codes "/"; session = codes "s1"; hostname = codes "h:u"; deleted_at = None }
 
 abbrev pub ls_payload : List ℕ
 ls_payload =
@@ -17,8 +14,8 @@ ls_payload =
 
 pub record WorkedCreation : Type 0 where
   pub bytes : length ls_payload ≡ 68
-  pub written : written_payload (HistoryCreate ls) ≡ ls_payload
-  pub spelled : PayloadOf (codes "history") (codes "v0") ls_payload (HistoryCreate ls)
+  pub written : written_payload (HistoryCreate ls_ended) ≡ ls_payload
+  pub spelled : PayloadOf (codes "history") (codes "v0") ls_payload (HistoryCreate ls_ended)
   -- with a byte behind, in another version, and with the tag of another kind there is none
   pub byte_behind : (byte : ℕ) (payload : Payload) → PayloadOf (codes "history") (codes "v0") (ls_payload ++ byte ∷ []) payload → ⊥
   pub other_version : (payload : Payload) → PayloadOf (codes "history") (codes "v9") ls_payload payload → ⊥
@@ -44,14 +41,14 @@ least = record { id = 0; timestamp = 0; duration = negsuc 0; exit = negsuc 0; co
 
 pub record WorkedPayloads : Type 0 where
   -- the deletion of that command; a key's value; an alias, and its deletion
-  pub deleted : written_payload (HistoryDelete ls.id) ≡ 0xcc ∷ 0x01 ∷ 0xd9 ∷ 0x20 ∷ codes "018bcfe5680070018203040506070809"
+  pub deleted : written_payload (HistoryDelete ls_ended.id) ≡ 0xcc ∷ 0x01 ∷ 0xd9 ∷ 0x20 ∷ codes "018bcfe5680070018203040506070809"
   pub key : written_payload (KvSet (codes "n") (codes "k") (codes "v")) ≡ 0x93 ∷ 0xa1 ∷ 0x6e ∷ 0xa1 ∷ 0x6b ∷ 0xa1 ∷ 0x76 ∷ []
   pub alias : written_payload (AliasSet (codes "g") (codes "git")) ≡ 0xcc ∷ 0x00 ∷ 0x92 ∷ 0xa1 ∷ 0x67 ∷ 0xa3 ∷ 0x67 ∷ 0x69 ∷ 0x74 ∷ []
   pub no_alias : written_payload (AliasDelete (codes "g")) ≡ 0xcc ∷ 0x01 ∷ 0x91 ∷ 0xa1 ∷ 0x67 ∷ []
   -- times stand in eight bytes, whatever they are
   pub wide_times : written_payload (HistoryCreate least) ≡ 0xcc ∷ 0x00 ∷ 0xc4 ∷ 0x3e ∷ 0xcd ∷ 0x00 ∷ 0x00 ∷ 0x99 ∷ 0xd9 ∷ 0x20 ∷ (codes "00000000000000000000000000000000" ++ (0xcf ∷ 0 ∷ 0 ∷ 0 ∷ 0 ∷ 0 ∷ 0 ∷ 0 ∷ 0 ∷ 0xff ∷ 0xff ∷ 0xa0 ∷ 0xa0 ∷ 0xa0 ∷ 0xa0 ∷ 0xcf ∷ 0 ∷ 0 ∷ 0 ∷ 0 ∷ 0 ∷ 0 ∷ 0 ∷ 1 ∷ []))
   -- the tag of each
-  pub deletion_tag : tag_of (HistoryDelete ls.id) ≡ codes "history"
+  pub deletion_tag : tag_of (HistoryDelete ls_ended.id) ≡ codes "history"
   pub key_tag : tag_of (KvSet (codes "n") (codes "k") (codes "v")) ≡ codes "kv"
   pub alias_tags : (tag_of (AliasSet (codes "g") (codes "git")) ≡ codes "dotfiles-shell-alias") × (tag_of (AliasDelete (codes "g")) ≡ codes "dotfiles-shell-alias")
 
@@ -62,7 +59,7 @@ greatest = record { id = 0xffffffffffffffffffffffffffffffff; timestamp = 0xfffff
 -- numbers and texts at their limits, and one above
 pub record WorkedRanges : Type 0 where
   pub greatest_fits : PayloadFits (HistoryCreate greatest)
-  pub undeleted_fits : PayloadFits (HistoryCreate ls)
+  pub undeleted_fits : PayloadFits (HistoryCreate ls_ended)
   pub id_above : (h : HistoryRecord) → h.id ≡ 0x100000000000000000000000000000000 → PayloadFits (HistoryCreate h) → ⊥
   pub timestamp_above : (h : HistoryRecord) → h.timestamp ≡ 0x10000000000000000 → PayloadFits (HistoryCreate h) → ⊥
   pub duration_above : (h : HistoryRecord) → h.duration ≡ pos 0x8000000000000000 → PayloadFits (HistoryCreate h) → ⊥

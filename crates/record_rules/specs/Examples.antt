@@ -1,6 +1,7 @@
 -- Worked examples: what the definitions give at small journals, with the numbers written out.
 use Rattle.std.specs.Prelude.{true, false, ◌≡◌, ◌≢◌, ◌++◌, ℕ, zero, suc, ◌+◌, List, [], ◌∷◌, length, map, replicate, sum_by, codes, Option, Some, None, Ok, Err}
 use Rattle.definitions.specs.Journal.{StartedRecord}
+use Rattle.definitions.specs.Examples.{ls}
 use Rattle.record_rules.specs.Records.{SealedRecord, Caller, Entry, Event, Started, Local, Taken, record_weight, page_weight, event_weight}
 use Rattle.record_rules.specs.Journal.{chain, ChainPlace, Ascends, own_events, records_of, places_of, places_added, status, held, fits, running, StartedFits, RecordFits, EventFits, Sound}
 use Rattle.record_rules.specs.Growth.{holder, is_fresh, too_long_at, owned_with, PageTooLong, PageForked, PageGap, PageFull, taken_entry, GoOn, IsFront, grow}
@@ -26,10 +27,14 @@ kv_page (suc count) idx = kv_record idx (idx + 1000) ∷ kv_page count (idx + 1)
 
 -- a command that was started with this id
 abbrev pub started_ls : ℕ → StartedRecord
-started_ls id = record { id = id; timestamp = 0; command = codes "ls"; cwd = codes "/"; session = codes "s1"; hostname = codes "h:u" }
+started_ls id = record ls { id = id; timestamp = 0 }
 
 abbrev pub entry_of : Event → Entry
 entry_of event = record { caller = caller; event = event }
+
+-- `ls`, begun at 1,700,000,000 s by the first call of pass 1
+abbrev pub ls_entry : Entry
+ls_entry = entry_of (Started ls)
 
 -- a record of host 1 that this store made
 abbrev pub local_entry : (closes : Option ℕ) (idx id : ℕ) → Entry

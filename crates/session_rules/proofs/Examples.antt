@@ -6,6 +6,7 @@ use Rattle.std.proofs.lemmas.List.{append_cancel_left}
 use Rattle.definitions.specs.Ids.{id_text, made_id}
 use Rattle.definitions.specs.Step.{Used, used_nothing, read_clock, read_and_drew, read_and_failed}
 use Rattle.definitions.proofs.Runs.{then_used-nothing}
+use Rattle.definitions.specs.Examples.{first_time, ten_bytes}
 use Rattle.record_rules.specs.Records.{Entry}
 use Rattle.record_rules.specs.Growth.{PageGap}
 use Rattle.record_rules.specs.Examples.{kv_record}
@@ -15,7 +16,7 @@ use Rattle.step_rules.specs.Store.{KeyedStore}
 use Rattle.step_rules.specs.Turn.{used_clock, used_bytes}
 use Rattle.step_rules.specs.Step.{Ready, start_draft, start_drafts, append_step}
 use Rattle.step_rules.specs.PageTurns.{page_faulted}
-use Rattle.step_rules.specs.Examples.{first_time, second_time, ten_bytes, ls_call, two_records}
+use Rattle.step_rules.specs.Examples.{second_time, ls_call, two_records}
 use Rattle.request_rules.proofs.Examples.{calls, faults}
 use Rattle.session_rules.specs.Sessions.{Asked, a_call, no_call, caller_of, Told, told_disk_fault, told_random_fault, told_no_memory, told_no_memory_to_read, Session, SessionAnswer, to_call, to_page, told_step, told_bad, told_no_memory_for_bad, told_page, told_page_refused, told_page_disk_fault, told_page_no_memory}
 use Rattle.session_rules.specs.Passes.{TurnItem, failures, tells_disk_fault, TurnsFor}

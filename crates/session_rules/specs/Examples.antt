@@ -2,6 +2,7 @@
 use Rattle.std.specs.Prelude.{◌≡◌, ℕ, ◌-◌, ◌^◌, pos, negsuc, List, [], ◌∷◌, ◌++◌, codes, Some, None, replicate, true, false}
 use Rattle.definitions.specs.Ids.{made_id}
 use Rattle.definitions.specs.Step.{used_nothing, read_clock, read_and_drew, read_and_failed}
+use Rattle.definitions.specs.Examples.{first_time, ten_bytes, ls}
 use Rattle.record_rules.specs.Records.{SealedRecord, Caller, Entry, Started}
 use Rattle.record_rules.specs.Growth.{PageGap, taken_entry}
 use Rattle.record_rules.specs.Examples.{kv_record}
@@ -9,7 +10,7 @@ use Rattle.step_rules.specs.Calls.{status_call}
 use Rattle.step_rules.specs.Answers.{too_long, unknown_id, unknown_name, full, random_fault, id_taken, disk_fault, no_memory, bad_request, began, stored, hits, value_is, keys, aliases, places, refused}
 use Rattle.step_rules.specs.Store.{KeyedStore}
 use Rattle.step_rules.specs.PageTurns.{took, page_refused, page_faulted, page_no_memory}
-use Rattle.step_rules.specs.Examples.{first_time, second_time, ten_bytes, ls_call, two_records}
+use Rattle.step_rules.specs.Examples.{second_time, ls_call, two_records}
 use Rattle.session_rules.specs.Bytes.{reply_bytes}
 use Rattle.session_rules.specs.Sessions.{a_call, no_call, a_page, to_call, to_page, caller_of, Session, random_faults}
 use Rattle.session_rules.specs.Reading.{Reads, ReadsEach}
@@ -47,7 +48,7 @@ abbrev pub other_id : ℕ
 other_id = made_id first_time other_bytes
 
 abbrev pub started_by : (number id timestamp : ℕ) → Entry
-started_by number id timestamp = record { caller = caller_of number 1; event = Started (record { id = id; timestamp = timestamp; command = codes "ls"; cwd = codes "/"; session = codes "s1"; hostname = codes "h:u" }) }
+started_by number id timestamp = record { caller = caller_of number 1; event = Started (record ls { id = id; timestamp = timestamp }) }
 
 -- the start of session 2, then that of session 1
 abbrev pub both : List Entry

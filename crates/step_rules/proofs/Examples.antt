@@ -14,6 +14,8 @@ use Rattle.std.proofs.lemmas.List.Sorted.{IsPermutation-refl}
 use Rattle.std.specs.List.{Contains, filter}
 use Rattle.std.specs.List.Sorted.{IsPermutation}
 use Rattle.definitions.specs.Step.{Used, used_nothing, read_clock, read_and_drew}
+use Rattle.definitions.specs.Examples.{first_time, ten_bytes, first_id, ls, ls_ended}
+use Rattle.record_rules.specs.Examples.{ls_entry}
 use Rattle.payload_rules.specs.Payloads.{Payload, HistoryCreate, HistoryDelete, KvSet, AliasSet, AliasDelete, tag_of, history_tag, payload_version}
 use Rattle.record_rules.specs.Limits.{most_value_bytes, most_name_bytes, most_page_weight, most_held_weight}
 use Rattle.record_rules.specs.Records.{SealedRecord, Caller, Entry, Local, record_weight, event_weight}
@@ -33,7 +35,7 @@ use Rattle.step_rules.specs.Step.{Draft, start_draft, record_draft, Drafts, star
 use Rattle.step_rules.specs.Turn.{is_refusal, UsedSome, used_clock, used_bytes, Turn, read_turn, short_read_turn, unsettled_turn, undrawn_turn, step_turn, uncommitted_turn, short_turn, short_settled_turn}
 use Rattle.step_rules.specs.PageTurns.{page_faulted, PageTurn, unsettled_page, taken_page, refused_page, uncommitted_page, short_page, short_settled_page}
 use Rattle.step_rules.specs.ReadTurns.{status_read, front_read, read_faulted, read_no_memory, ReadTurn, tells_status, tells_page, tells_front, faults_on_page, wants_memory}
-use Rattle.step_rules.specs.Examples.{end_id, end_head, end_record, end_settled, first_time, second_time, third_time, ten_bytes, other_bytes, first_id, other_id, call_of, ls_call, ls, ls_entry, other_entry, ls_ended, end_entry, OfExample, zeros_store, one_made, second_taken, WorkedStore, WorkedCommand, WorkedTexts, WorkedViews, WorkedDrafts, RunOf, WorkedRun, WorkedAsked, WorkedDoubt, WorkedPageTurns, WorkedReadTurns}
+use Rattle.step_rules.specs.Examples.{end_id, end_head, end_record, end_settled, second_time, third_time, other_bytes, other_id, call_of, ls_call, other_entry, end_entry, OfExample, zeros_store, one_made, second_taken, WorkedStore, WorkedCommand, WorkedTexts, WorkedViews, WorkedDrafts, RunOf, WorkedRun, WorkedAsked, WorkedDoubt, WorkedPageTurns, WorkedReadTurns}
 use Rattle.step_rules.proofs.Following.{seal_bytes, tag_fits}
 
 ls_ready : (store : KeyedStore) (journal : List Entry) → draft_passes store journal (start_draft (codes "ls") (codes "/") (codes "s1") (codes "h:u")) ≡ None → Ready store journal ls_call (start_draft (codes "ls") (codes "/") (codes "s1") (codes "h:u"))
@@ -69,6 +71,9 @@ zeros_open : (payload : Payload) (tag : List ℕ) (same : Bool) → bytes_eq tag
 zeros_open payload tag true same opened = (bytes_eq-Decides tag history_tag).0 same ∙ ap tag_of (same_Some (HistoryCreate ls_ended) payload opened)
 zeros_open payload tag false same opened = absurd (none-some payload opened)
 
+zeros_example : OfExample zeros_store
+zeros_example = record { host = refl; weight = refl }
+
 -- what a record says in the open that ends the empty name
 abbrev empty_end : Head
 empty_end = record { id = 0; idx = 0; version = payload_version; tag = tag_of (AliasDelete []); host = 1 }
@@ -76,7 +81,7 @@ empty_end = record { id = 0; idx = 0; version = payload_version; tag = tag_of (A
 pub a_store : WorkedStore
 a_store = record {
   seals_well = record { weighs = zeros_weigh; light = zeros_light };
-  of_example = record { host = refl; weight = refl };
+  of_example = zeros_example;
   opens_by_tag = λ r payload opened. zeros_open payload r.tag (bytes_eq r.tag history_tag) refl opened;
   opens_end = λ drawn. refl;
   tells_less = λ well. let told = well.weighs empty_end (AliasDelete []) 0 (replicate 96 0) refl refl refl in omega (arith, told);
@@ -438,7 +443,7 @@ run_of store drawn of_example many opened = record {
 }
 
 pub run : WorkedRun
-run = record { at_store = run_of; at_zeros = λ drawn many. run_of zeros_store drawn a_store.of_example many (a_store.opens_end drawn) }
+run = record { at_store = run_of; at_zeros = λ drawn many. run_of zeros_store drawn zeros_example many refl }
 
 pub asked : WorkedAsked
 asked = record {

@@ -4,11 +4,12 @@ use Rattle.definitions.specs.Ids.{made_id}
 use Rattle.definitions.specs.Calls.{by_prefix}
 use Rattle.definitions.specs.Journal.{StartedRecord, HistoryRecord}
 use Rattle.definitions.specs.Step.{used_nothing, read_clock, read_and_drew, read_and_failed}
+use Rattle.definitions.specs.Examples.{first_time, ten_bytes, first_id, ls, ls_ended}
 use Rattle.payload_rules.specs.Payloads.{HistoryCreate, HistoryDelete, KvSet, AliasSet, AliasDelete, tag_of, history_tag}
 use Rattle.record_rules.specs.Records.{SealedRecord, Caller, Entry, Started, Local, Taken}
 use Rattle.record_rules.specs.Journal.{fits}
 use Rattle.record_rules.specs.Growth.{PageGap}
-use Rattle.record_rules.specs.Examples.{kv_record, placed_record}
+use Rattle.record_rules.specs.Examples.{kv_record, placed_record, ls_entry}
 use Rattle.view_rules.specs.Views.{OpensByTag}
 use Rattle.view_rules.specs.Answers.{Scope, of_all, of_hostname, of_session, of_cwd}
 use Rattle.step_rules.specs.Calls.{Call, start_call, end_call, delete_call, search_call, kv_set_call, kv_get_call, kv_list_call, alias_set_call, alias_delete_call, alias_list_call, status_call, long_text, call_bytes, CallFits}
@@ -21,20 +22,8 @@ use Rattle.step_rules.specs.ReadTurns.{status_read, page_read, front_read, told_
 
 -- ---- a command of host 1 that starts, and ends
 
--- 1,700,000,000 seconds after 1970
-abbrev pub first_time : ℕ
-first_time = 1700000000000000000
-
 abbrev pub second_time : ℕ
 second_time = 1700000001000000000
-
--- the random bytes 00 to 09
-abbrev pub ten_bytes : List ℕ
-ten_bytes = 0 ∷ 1 ∷ 2 ∷ 3 ∷ 4 ∷ 5 ∷ 6 ∷ 7 ∷ 8 ∷ 9 ∷ []
-
--- the id that they and the first time make
-abbrev pub first_id : ℕ
-first_id = 0x018bcfe5680070018203040506070809
 
 abbrev pub third_time : ℕ
 third_time = 1700000002000000000
@@ -52,18 +41,9 @@ call_of number = record { number = 1; call = number; settled_for = 0 }
 abbrev pub ls_call : Call
 ls_call = start_call (codes "ls") (codes "/") (codes "s1") (codes "h:u")
 
-abbrev pub ls : StartedRecord
-ls = record { id = first_id; timestamp = first_time; command = codes "ls"; cwd = codes "/"; session = codes "s1"; hostname = codes "h:u" }
-
-abbrev pub ls_entry : Entry
-ls_entry = record { caller = call_of 1; event = Started ls }
-
 -- the same command, started again by the third call
 abbrev pub other_entry : Entry
-other_entry = record { caller = call_of 3; event = Started (record { id = other_id; timestamp = third_time; command = codes "ls"; cwd = codes "/"; session = codes "s1"; hostname = codes "h:u" }) }
-
-abbrev pub ls_ended : HistoryRecord
-ls_ended = record { id = first_id; timestamp = first_time; duration = pos 1000; exit = pos 0; command = codes "ls"; cwd = codes "/"; session = codes "s1"; hostname = codes "h:u"; deleted_at = None }
+other_entry = record { caller = call_of 3; event = Started (record ls { id = other_id; timestamp = third_time }) }
 
 -- the id of its end, and what the end's record says in the open
 abbrev pub end_id : List ℕ → ℕ

@@ -3,7 +3,7 @@
 //!
 //! A contract sees a hasher as a `Hashing`, of which a caller needs the output's length alone, and
 //! says by `Holds` which key and text it has been given. However the text is cut into pieces, the
-//! hash is the standard's `blake2b` of the pieces one after another.
+//! hash is the standard's `blake2b` of the pieces one after another; `hash_pieces` has it in one call.
 //!
 //! It takes no memory, and stands on std alone.
 #![tactic(auto)]
@@ -100,6 +100,22 @@ impl Blake2b {
         let bytes = bytes_of(&state);
         out.copy_from_slice(&bytes[..usize::from(self.out_len)]);
     }
+}
+
+/// Writes into `out` the hash, of as many bytes as it has, of the pieces one after another under `key`
+/// (RFC 7693, section 3.3). `out` has 1 to 64 bytes, and what it held before is gone; the key has at
+/// most 64 and may be empty.
+pub fn hash_pieces(key: &[u8], pieces: &[&[u8]], out: &mut [u8])
+    requires key { length key.now ≤ 64 }
+    requires some { 1 ≤ length out.old }
+    requires most { length out.old ≤ 64 }
+    ensures { out.new ≡ blake2b (length out.old) key.now (flat_map (λ piece. piece.now) pieces.now) }
+{
+    let mut hasher = Blake2b::new(key, out.len() as u8);
+    for piece in pieces {
+        hasher.update(piece);
+    }
+    hasher.finish_into(out);
 }
 
 // The state before the first block.

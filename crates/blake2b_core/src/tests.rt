@@ -1,23 +1,7 @@
-ghost use Rattle.std.specs.Prelude.{◌≡◌, ◌≤◌, length};
-ghost use Rattle.std.specs.List.{flat_map};
-ghost use Rattle.blake2b_core.specs.Hash.{blake2b};
+ghost use Rattle.std.specs.Prelude.{◌≤◌, length};
 
 use super::*;
 use std::process::Abort;
-
-// The hash of pieces, whatever their number and lengths, is that of the pieces one after another.
-fn hash_of(key: &[u8], pieces: &[&[u8]], out: &mut [u8])
-    requires key { length key.now ≤ 64 }
-    requires some { 1 ≤ length out.old }
-    requires most { length out.old ≤ 64 }
-    ensures { out.new ≡ blake2b (length out.old) key.now (flat_map (λ piece. piece.now) pieces.now) }
-{
-    let mut hasher = Blake2b::new(key, out.len() as u8);
-    for piece in pieces {
-        hasher.update(piece);
-    }
-    hasher.finish_into(out);
-}
 
 // RFC 7693, appendix A.
 const HASH_OF_ABC: [u8; 64] = [
@@ -30,7 +14,7 @@ const HASH_OF_ABC: [u8; 64] = [
 #[test]
 fn hash_of_abc(rt: HostRuntime) {
     let mut out = [0u8; 64];
-    hash_of(b"", &[b"abc"], &mut out);
+    hash_pieces(b"", &[b"abc"], &mut out);
     assert_eq!(rt; out, HASH_OF_ABC);
 }
 
@@ -53,7 +37,7 @@ fn short_hash(key: &[u8], pieces: &[&[u8]]) -> u64
     requires { length key.now ≤ 64 }
 {
     let mut out = [0u8; 8];
-    hash_of(key, pieces, &mut out);
+    hash_pieces(key, pieces, &mut out);
     u64::from_be_bytes(out)
 }
 
@@ -106,7 +90,7 @@ fn matches(rt: &impl Abort, expected: &[u8])
 {
     let mut whole = [0u8; 64];
     let out = &mut whole[..expected.len()];
-    hash_of(b"key", &[b"ab", b"", b"c"], out);
+    hash_pieces(b"key", &[b"ab", b"", b"c"], out);
     assert_eq!(rt; &*out, expected);
 }
 

@@ -1,14 +1,7 @@
 -- One piece more, of a list of pieces that are hashed in order.
 use Rattle.std.proofs.Common.{◌≡◌, ℕ, ◌+◌, ◌<◌, List, [], ◌∷◌, ◌++◌, Bor, length, map, take, get_or, sym, ap, ◌∙◌}
-use Rattle.std.specs.List.{flat_map}
-use Rattle.std.proofs.lemmas.List.{append_assoc, append-nil, flat_map_more, map_more, take_more}
+use Rattle.std.proofs.lemmas.List.{append_assoc, append-nil, map_more}
 use Rattle.paseto_seal.specs.Pae.{le64, pieces_encoded}
-
-pub joined_more : (pieces : List (Bor (List ℕ))) (i : ℕ) (d : Bor (List ℕ)) → i < length pieces
-    → flat_map (λ p. p.now) (take i pieces) ++ (get_or pieces i d).now ≡ flat_map (λ p. p.now) (take (i + 1) pieces)
-joined_more pieces i d below =
-    flat_map_more (λ p. p.now) [] (take i pieces) (get_or pieces i d)
-    ∙ ap (flat_map (λ (p : Bor (List ℕ)). p.now)) (sym (take_more pieces i d below))
 
 encoded_push : (front : List ℕ) (xs : List (List ℕ)) (y : List ℕ)
     → ((front ++ pieces_encoded xs) ++ le64 (length y)) ++ y ≡ front ++ pieces_encoded (xs ++ y ∷ [])

@@ -1,7 +1,6 @@
-// BLAKE2b over several pieces, plainly or in the pre-authentication encoding.
+// BLAKE2b over several pieces in the pre-authentication encoding.
 
 ghost use Rattle.std.specs.Prelude.{◌≡◌, ◌≤◌, length, map};
-ghost use Rattle.std.specs.List.{flat_map};
 ghost use Rattle.blake2b_core.specs.Hash.{blake2b};
 ghost use Rattle.paseto_seal.specs.Pae.{le64, pae};
 
@@ -13,20 +12,6 @@ fn le64(count: usize) -> [u8; 8]
     ensures { result ≡ le64 count }
 {
     (count as u64 % (1 << 63)).to_le_bytes()
-}
-
-/// Writes into `out` the hash, of as many bytes as it has, of the pieces one after another.
-pub fn hash_pieces(key: &[u8], pieces: &[&[u8]], out: &mut [u8])
-    requires key { length key.now ≤ 64 }
-    requires some { 1 ≤ length out.old }
-    requires most { length out.old ≤ 64 }
-    ensures { out.new ≡ blake2b (length out.old) key.now (flat_map (λ p. p.now) pieces.now) }
-{
-    let mut hash = Blake2b::new(key, out.len() as u8);
-    for piece in pieces {
-        hash.update(piece);
-    }
-    hash.finish_into(out);
 }
 
 /// Writes into `out` the hash, of as many bytes as it has, of the pieces' pre-authentication encoding.

@@ -4,7 +4,7 @@ ghost use Rattle.std.specs.Prelude.{◌≡◌, IfOk};
 ghost use Rattle.paseto_seal.specs.KeyId.{key_id_of};
 
 use crate::carried::carry;
-use crate::hash::hash_pieces;
+use blake2b_core::hash_pieces;
 use plain_types::{NoMemory, Text};
 use std::alloc::Global;
 

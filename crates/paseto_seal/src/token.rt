@@ -6,9 +6,10 @@ ghost use Rattle.paseto_seal.specs.Token.{token_cipher, token_tag, token_body, t
 use crate::carried::{carried, carry};
 use crate::cipher::apply_cipher;
 use crate::fail::TokenFail;
-use crate::hash::{hash_encoded, hash_pieces};
+use crate::hash::hash_encoded;
 use crate::sizes::{NONCE_BYTES, TAG_BYTES};
 use crate::tag::same_tag;
+use blake2b_core::hash_pieces;
 use plain_types::{Bytes, NoMemory, Text};
 use std::alloc::Global;
 

@@ -6,9 +6,9 @@ ghost use Rattle.paseto_seal.specs.Wrap.{wrap_cipher, wrap_tag, wrap_body, wrap,
 use crate::carried::{carried, carry};
 use crate::cipher::apply_cipher;
 use crate::fail::WrapFail;
-use crate::hash::hash_pieces;
 use crate::sizes::{KEY_BYTES, NONCE_BYTES, TAG_BYTES};
 use crate::tag::same_tag;
+use blake2b_core::hash_pieces;
 use plain_types::{NoMemory, Text};
 use std::alloc::Global;
 

@@ -2,7 +2,7 @@ use Rattle.std.proofs.Common.{◌≡◌, ℕ, ◌+◌, ◌<◌, ◌∙◌, List,
 use Rattle.std.proofs.lemmas.List.{flat_map_more, take_all, take_more}
 use Rattle.std.specs.List.{flat_map}
 use Rattle.blake2b_core.specs.Hashing.{Holds}
-use Rattle.blake2b_core.proofs.tests.hash_of.Goals as goal
+use Rattle.blake2b_core.proofs.hash_pieces.Goals as goal
 
 -- one more piece
 joined_more : (pieces : List (Bor (List ℕ))) (i : ℕ) (d : Bor (List ℕ)) → i < length pieces

@@ -1,7 +1,7 @@
 use Rattle.std.proofs.Common.{◌≡◌, length, take}
 use Rattle.std.specs.List.{flat_map}
 use Rattle.blake2b_core.specs.Hashing.{Holds}
-use Rattle.blake2b_core.proofs.tests.hash_of.Given as goal
+use Rattle.blake2b_core.proofs.hash_pieces.Given as goal
 
 abbrev pub invariant-loop-piece : goal.invariant-loop-piece
 invariant-loop-piece l =

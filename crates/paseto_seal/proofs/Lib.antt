@@ -1,6 +1,5 @@
 pub mod Base64UrlLaws
 pub mod Bytes
-pub mod CipherLaws
 pub mod Derived
 pub mod HashLaws
 pub mod Opening

@@ -9,11 +9,10 @@ use Rattle.paseto_seal.specs.Fails.{token_fail}
 use Rattle.paseto_seal.specs.declared.carried.CarryFail.{CarryFail}
 use Rattle.paseto_seal.specs.declared.carried.CarryFail.TheVariants.{NotCarried, NoMemory}
 use Rattle.paseto_seal.specs.declared.fail.TokenFail.TheVariants.{NoMemory as TokenNoMemory}
-use Rattle.xchacha_core.proofs.StreamLaws.{length-xchacha20, xchacha20-xchacha20}
+use Rattle.xchacha_core.proofs.StreamLaws.{length-xchacha20, xchacha20-bytes, xchacha20-xchacha20}
 use Rattle.paseto_seal.proofs.Bytes.{append_bytes, front_bytes, back_bytes}
 use Rattle.paseto_seal.proofs.Base64UrlLaws.{carries_one, length-base64url}
 use Rattle.paseto_seal.proofs.HashLaws.{length-blake2b, blake2b_bytes}
-use Rattle.paseto_seal.proofs.CipherLaws.{xchacha20_bytes}
 use Rattle.paseto_seal.proofs.Parts.{same_parts, same_parts_back}
 
 pub length-token_tag : (key nonce cipher implicit : List ℕ) → length (token_tag key nonce cipher implicit) ≡ 32
@@ -28,7 +27,7 @@ pub token_cipher_twice : (key nonce message : List ℕ) → token_cipher key non
 token_cipher_twice key nonce message = xchacha20-xchacha20 (take 32 (token_secrets key nonce)) (drop 32 (token_secrets key nonce)) message
 
 token_cipher_bytes : (key nonce message : List ℕ) → IsBytes message → IsBytes (token_cipher key nonce message)
-token_cipher_bytes key nonce message are = xchacha20_bytes (take 32 (token_secrets key nonce)) (drop 32 (token_secrets key nonce)) message are
+token_cipher_bytes key nonce message are = xchacha20-bytes (take 32 (token_secrets key nonce)) (drop 32 (token_secrets key nonce)) message are
 
 token_tag_bytes : (key nonce cipher implicit : List ℕ) → IsBytes (token_tag key nonce cipher implicit)
 token_tag_bytes key nonce cipher implicit =

@@ -8,11 +8,10 @@ use Rattle.paseto_seal.specs.Fails.{wrap_fail}
 use Rattle.paseto_seal.specs.declared.carried.CarryFail.{CarryFail}
 use Rattle.paseto_seal.specs.declared.carried.CarryFail.TheVariants.{NotCarried, NoMemory}
 use Rattle.paseto_seal.specs.declared.fail.WrapFail.TheVariants.{NotWrapped, NoMemory as WrapNoMemory}
-use Rattle.xchacha_core.proofs.StreamLaws.{length-xchacha20, xchacha20-xchacha20}
+use Rattle.xchacha_core.proofs.StreamLaws.{length-xchacha20, xchacha20-bytes, xchacha20-xchacha20}
 use Rattle.paseto_seal.proofs.Bytes.{append_bytes, front_bytes, back_bytes}
 use Rattle.paseto_seal.proofs.Base64UrlLaws.{carries_one}
 use Rattle.paseto_seal.proofs.HashLaws.{length-blake2b, blake2b_bytes}
-use Rattle.paseto_seal.proofs.CipherLaws.{xchacha20_bytes}
 use Rattle.paseto_seal.proofs.Parts.{same_parts}
 
 length-wrap_tag : (by nonce cipher : List ℕ) → length (wrap_tag by nonce cipher) ≡ 32
@@ -26,7 +25,7 @@ wrap_cipher_twice : (by nonce key : List ℕ) → wrap_cipher by nonce (wrap_cip
 wrap_cipher_twice by nonce key = xchacha20-xchacha20 (take 32 (wrap_secrets by nonce)) (drop 32 (wrap_secrets by nonce)) key
 
 wrap_cipher_bytes : (by nonce key : List ℕ) → IsBytes key → IsBytes (wrap_cipher by nonce key)
-wrap_cipher_bytes by nonce key are = xchacha20_bytes (take 32 (wrap_secrets by nonce)) (drop 32 (wrap_secrets by nonce)) key are
+wrap_cipher_bytes by nonce key are = xchacha20-bytes (take 32 (wrap_secrets by nonce)) (drop 32 (wrap_secrets by nonce)) key are
 
 wrap_body_bytes : (by nonce key : List ℕ) → IsBytes nonce → IsBytes key → IsBytes (wrap_body by nonce key)
 wrap_body_bytes by nonce key nonce_are key_are =

@@ -118,6 +118,7 @@ pub fn open_token(
     ensures ok { IfOk result (λ message. Opens key.now token.now implicit.now message.items) }
     ensures opens { (message : List ℕ) → Opens key.now token.now implicit.now message
         → MatchResult result (λ opened. opened.items ≡ message) (λ fail. fail ≡ TokenFail.NoMemory) }
+    ensures ok_form { IfOk result (λ _. IsTokenForm token.now) }
     ensures not_token { IsErrOf result TokenFail.NotToken → ¬ IsTokenForm token.now }
     ensures bad_tag { IsErrOf result TokenFail.BadTag
         → IsTokenForm token.now × ((message : List ℕ) → ¬ Opens key.now token.now implicit.now message) }

@@ -107,6 +107,7 @@ pub fn unwrap_key(alloc: Global, by: &[u8; 32], text: &[u8]) -> Result<[u8; 32],
     ensures ok { IfOk result (λ key. Unwraps by.now text.now key) }
     ensures unwraps { (key : List ℕ) → Unwraps by.now text.now key
         → MatchResult result (λ unwrapped. unwrapped ≡ key) (λ fail. fail ≡ WrapFail.NoMemory) }
+    ensures ok_form { IfOk result (λ _. IsWrapForm text.now) }
     ensures not_wrapped { IsErrOf result WrapFail.NotWrapped → ¬ IsWrapForm text.now }
     ensures bad_tag { IsErrOf result WrapFail.BadTag
         → IsWrapForm text.now × ((key : List ℕ) → ¬ Unwraps by.now text.now key) }

@@ -64,3 +64,8 @@ returns-in-Ok-clause-opens c = λ message o.
     ∙ opening.opens_one c.args.key.now c.args.token.now c.args.implicit.now message c.in_ok-body.body.items
     c.parts.result.0.now c.parts.result.1.now c.parts.result.2.now c.in_ok-body.ensures.ok
     (sym c.as_slice.ensures.value ∙ c.parts.ensures.whole) c.parts.ensures.nonce c.parts.ensures.tag o
+
+pub returns-in-Ok-clause-ok_form : goal.returns-in-Ok-clause-ok_form
+returns-in-Ok-clause-ok_form c =
+    opening.form_of_carried c.args.token.now c.in_ok-body.body.items c.in_ok-body.ensures.ok
+    (omega (arith, c.if-len.false, c.len.ensures, c.in_ok-body.body.ok.0))

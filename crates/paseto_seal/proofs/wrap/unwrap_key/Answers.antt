@@ -59,3 +59,8 @@ returns-clause-unwraps c = λ key u.
     ∙ unwrapping.unwraps_one c.args.by.now c.args.text.now key c.in_ok-body.body.items
     c.parts.result.0.now c.parts.result.1.now c.parts.result.2.now c.in_ok-body.ensures.ok
     (sym c.as_slice.ensures.value ∙ c.parts.ensures.whole) c.parts.ensures.tag c.parts.ensures.nonce u
+
+pub returns-clause-ok_form : goal.returns-clause-ok_form
+returns-clause-ok_form c =
+    unwrapping.form_of_carried c.args.text.now c.in_ok-body.body.items c.in_ok-body.ensures.ok
+    (sym c.in_ok-body.body.ok.0 ∙ sym c.len.ensures ∙ c.if-len-ne-BODY_BYTES.false)

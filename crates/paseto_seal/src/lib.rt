@@ -6,8 +6,10 @@
 //!
 //! The promise, both ways: what is locked, wrapped or named is exactly that text; what is opened or unwrapped is
 //! exactly what the text stands for under the key and the assertion, and a text that stands for nothing is refused,
-//! by a cause of its own where it has not even the form. A tag is compared whole before anything is deciphered.
-//! Nothing is said of the time that a call takes. A token with a footer is refused.
+//! by a cause of its own where it has not even the form. A token with a footer is refused.
+//!
+//! The code compares a tag whole, and deciphers nothing before it is found equal. No clause says either, since a
+//! contract sees answers alone, and none speaks of the time that a call takes.
 //!
 //! It stands on `blake2b_core`, `xchacha_core`, `plain_types` and the kit's `base64`.
 #![tactic(auto)]

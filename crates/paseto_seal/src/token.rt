@@ -100,7 +100,7 @@ pub fn lock_token(
 /// The message whose token under `key` and the implicit assertion `implicit` this is (PASETO, Version 4, "Decrypt",
 /// with an empty footer). `token` is below 2^32 bytes; `implicit` is of any length. At most one message has the token.
 ///
-/// The tag is compared whole, and nothing is deciphered before it is found equal.
+/// The code compares the tag whole, and deciphers nothing before it is found equal; no clause says so.
 ///
 /// # Errors
 ///

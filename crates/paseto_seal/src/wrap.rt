@@ -95,7 +95,7 @@ pub fn wrap_key(
 /// The key whose wrap under the key `by` this is (PASERK, local-wrap with the prefix pie). `text` is of any length. At
 /// most one key has the wrap.
 ///
-/// The tag is compared whole, and nothing is deciphered before it is found equal.
+/// The code compares the tag whole, and deciphers nothing before it is found equal; no clause says so.
 ///
 /// # Errors
 ///

@@ -58,49 +58,52 @@ fn tokens_both_ways(rt: HostRuntime) -> Result<(), Fail> {
     Ok(())
 }
 
+// Texts that are no token under the key and the assertion, and what each is called.
+const NO_TOKENS: [(&[u8], TokenFail); 10] = [
+    // one of the four spare bits of the last digit set
+    (
+        b"v4.local.32VIErrEkmY4JVILovbmfPXKW9wT1OdQepjMTC_MOtjdzeGZ5NK4Z9gR74D9ifoEYJCWtMKFj2X1ijOmKROBrB",
+        TokenFail::NotToken,
+    ),
+    // the first digit, in the nonce, and the two bits of the tag in the last
+    (
+        b"v4.local.42VIErrEkmY4JVILovbmfPXKW9wT1OdQepjMTC_MOtjdzeGZ5NK4Z9gR74D9ifoEYJCWtMKFj2X1ijOmKROBrA",
+        TokenFail::BadTag,
+    ),
+    (
+        b"v4.local.32VIErrEkmY4JVILovbmfPXKW9wT1OdQepjMTC_MOtjdzeGZ5NK4Z9gR74D9ifoEYJCWtMKFj2X1ijOmKROBrQ",
+        TokenFail::BadTag,
+    ),
+    // padding, the other alphabet, a footer
+    (
+        b"v4.local.32VIErrEkmY4JVILovbmfPXKW9wT1OdQepjMTC_MOtjdzeGZ5NK4Z9gR74D9ifoEYJCWtMKFj2X1ijOmKROBrA==",
+        TokenFail::NotToken,
+    ),
+    (
+        b"v4.local.32VIErrEkmY4JVILovbmfPXKW9wT1OdQepjMTC/MOtjdzeGZ5NK4Z9gR74D9ifoEYJCWtMKFj2X1ijOmKROBrA",
+        TokenFail::NotToken,
+    ),
+    (
+        b"v4.local.32VIErrEkmY4JVILovbmfPXKW9wT1OdQepjMTC_MOtjdzeGZ5NK4Z9gR74D9ifoEYJCWtMKFj2X1ijOmKROBrA.Zm9v",
+        TokenFail::NotToken,
+    ),
+    // 63 bytes, and other headers
+    (
+        b"v4.local.32VIErrEkmY4JVILovbmfPXKW9wT1OdQepjMTC_MOtjdzeGZ5NK4Z9gR74D9ifoEYJCWtMKFj2X1ijOmKROB",
+        TokenFail::NotToken,
+    ),
+    (
+        b"v3.local.32VIErrEkmY4JVILovbmfPXKW9wT1OdQepjMTC_MOtjdzeGZ5NK4Z9gR74D9ifoEYJCWtMKFj2X1ijOmKROBrA",
+        TokenFail::NotToken,
+    ),
+    (b"v4.local", TokenFail::NotToken),
+    // the token of another assertion
+    (SECOND, TokenFail::BadTag),
+];
+
 #[test]
 fn texts_that_are_no_token_of_the_key(rt: HostRuntime) {
-    for (token, fail) in [
-        // one of the four spare bits of the last digit set
-        (
-            b"v4.local.32VIErrEkmY4JVILovbmfPXKW9wT1OdQepjMTC_MOtjdzeGZ5NK4Z9gR74D9ifoEYJCWtMKFj2X1ijOmKROBrB".as_slice(),
-            TokenFail::NotToken,
-        ),
-        // the first digit, in the nonce, and the two bits of the tag in the last
-        (
-            b"v4.local.42VIErrEkmY4JVILovbmfPXKW9wT1OdQepjMTC_MOtjdzeGZ5NK4Z9gR74D9ifoEYJCWtMKFj2X1ijOmKROBrA",
-            TokenFail::BadTag,
-        ),
-        (
-            b"v4.local.32VIErrEkmY4JVILovbmfPXKW9wT1OdQepjMTC_MOtjdzeGZ5NK4Z9gR74D9ifoEYJCWtMKFj2X1ijOmKROBrQ",
-            TokenFail::BadTag,
-        ),
-        // padding, the other alphabet, a footer
-        (
-            b"v4.local.32VIErrEkmY4JVILovbmfPXKW9wT1OdQepjMTC_MOtjdzeGZ5NK4Z9gR74D9ifoEYJCWtMKFj2X1ijOmKROBrA==",
-            TokenFail::NotToken,
-        ),
-        (
-            b"v4.local.32VIErrEkmY4JVILovbmfPXKW9wT1OdQepjMTC/MOtjdzeGZ5NK4Z9gR74D9ifoEYJCWtMKFj2X1ijOmKROBrA",
-            TokenFail::NotToken,
-        ),
-        (
-            b"v4.local.32VIErrEkmY4JVILovbmfPXKW9wT1OdQepjMTC_MOtjdzeGZ5NK4Z9gR74D9ifoEYJCWtMKFj2X1ijOmKROBrA.Zm9v",
-            TokenFail::NotToken,
-        ),
-        // 63 bytes, and other headers
-        (
-            b"v4.local.32VIErrEkmY4JVILovbmfPXKW9wT1OdQepjMTC_MOtjdzeGZ5NK4Z9gR74D9ifoEYJCWtMKFj2X1ijOmKROB",
-            TokenFail::NotToken,
-        ),
-        (
-            b"v3.local.32VIErrEkmY4JVILovbmfPXKW9wT1OdQepjMTC_MOtjdzeGZ5NK4Z9gR74D9ifoEYJCWtMKFj2X1ijOmKROBrA",
-            TokenFail::NotToken,
-        ),
-        (b"v4.local", TokenFail::NotToken),
-        // the token of another assertion
-        (SECOND, TokenFail::BadTag),
-    ] {
+    for &(token, fail) in &NO_TOKENS {
         assert!(rt; token.len() < 300);
         let answer = open_token(rt.alloc(), &KEY, token, ASSERTION);
         assert_eq!(rt; answer.err(), Some(fail));
@@ -117,33 +120,36 @@ fn wraps_both_ways(rt: HostRuntime) -> Result<(), Fail> {
     Ok(())
 }
 
+// Texts that are no wrap under the key, and what each is called.
+const NO_WRAPS: [(&[u8], WrapFail); 5] = [
+    // a character less, and four more
+    (
+        b"k4.local-wrap.pie.-VJ-bOysXmie9GRAXeLMHV6U4-0bH0E-Zx7tM0kcxZTfZUgSusSSZjglUgui9uZ89cpb3BPU51B6mMxML8w62HJjutDkYqRo6CsVk4503F4--SZvSneVNBz0lj-WDxq",
+        WrapFail::NotWrapped,
+    ),
+    (
+        b"k4.local-wrap.pie.-VJ-bOysXmie9GRAXeLMHV6U4-0bH0E-Zx7tM0kcxZTfZUgSusSSZjglUgui9uZ89cpb3BPU51B6mMxML8w62HJjutDkYqRo6CsVk4503F4--SZvSneVNBz0lj-WDxqnAAAA",
+        WrapFail::NotWrapped,
+    ),
+    // another header
+    (
+        b"k4.local-wrap.pix.-VJ-bOysXmie9GRAXeLMHV6U4-0bH0E-Zx7tM0kcxZTfZUgSusSSZjglUgui9uZ89cpb3BPU51B6mMxML8w62HJjutDkYqRo6CsVk4503F4--SZvSneVNBz0lj-WDxqn",
+        WrapFail::NotWrapped,
+    ),
+    // the first digit, in the tag, and the last, in the ciphertext
+    (
+        b"k4.local-wrap.pie.AVJ-bOysXmie9GRAXeLMHV6U4-0bH0E-Zx7tM0kcxZTfZUgSusSSZjglUgui9uZ89cpb3BPU51B6mMxML8w62HJjutDkYqRo6CsVk4503F4--SZvSneVNBz0lj-WDxqn",
+        WrapFail::BadTag,
+    ),
+    (
+        b"k4.local-wrap.pie.-VJ-bOysXmie9GRAXeLMHV6U4-0bH0E-Zx7tM0kcxZTfZUgSusSSZjglUgui9uZ89cpb3BPU51B6mMxML8w62HJjutDkYqRo6CsVk4503F4--SZvSneVNBz0lj-WDxqo",
+        WrapFail::BadTag,
+    ),
+];
+
 #[test]
 fn texts_that_are_no_wrap_of_the_key(rt: HostRuntime) {
-    for (text, fail) in [
-        // a character less, and four more
-        (
-            b"k4.local-wrap.pie.-VJ-bOysXmie9GRAXeLMHV6U4-0bH0E-Zx7tM0kcxZTfZUgSusSSZjglUgui9uZ89cpb3BPU51B6mMxML8w62HJjutDkYqRo6CsVk4503F4--SZvSneVNBz0lj-WDxq".as_slice(),
-            WrapFail::NotWrapped,
-        ),
-        (
-            b"k4.local-wrap.pie.-VJ-bOysXmie9GRAXeLMHV6U4-0bH0E-Zx7tM0kcxZTfZUgSusSSZjglUgui9uZ89cpb3BPU51B6mMxML8w62HJjutDkYqRo6CsVk4503F4--SZvSneVNBz0lj-WDxqnAAAA",
-            WrapFail::NotWrapped,
-        ),
-        // another header
-        (
-            b"k4.local-wrap.pix.-VJ-bOysXmie9GRAXeLMHV6U4-0bH0E-Zx7tM0kcxZTfZUgSusSSZjglUgui9uZ89cpb3BPU51B6mMxML8w62HJjutDkYqRo6CsVk4503F4--SZvSneVNBz0lj-WDxqn",
-            WrapFail::NotWrapped,
-        ),
-        // the first digit, in the tag, and the last, in the ciphertext
-        (
-            b"k4.local-wrap.pie.AVJ-bOysXmie9GRAXeLMHV6U4-0bH0E-Zx7tM0kcxZTfZUgSusSSZjglUgui9uZ89cpb3BPU51B6mMxML8w62HJjutDkYqRo6CsVk4503F4--SZvSneVNBz0lj-WDxqn",
-            WrapFail::BadTag,
-        ),
-        (
-            b"k4.local-wrap.pie.-VJ-bOysXmie9GRAXeLMHV6U4-0bH0E-Zx7tM0kcxZTfZUgSusSSZjglUgui9uZ89cpb3BPU51B6mMxML8w62HJjutDkYqRo6CsVk4503F4--SZvSneVNBz0lj-WDxqo",
-            WrapFail::BadTag,
-        ),
-    ] {
+    for &(text, fail) in &NO_WRAPS {
         assert_eq!(rt; unwrap_key(rt.alloc(), &KEY, text), Err(fail));
     }
     assert_eq!(rt;

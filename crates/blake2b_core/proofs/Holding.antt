@@ -30,12 +30,12 @@ input_of_key [] some = absurd (omega (arith, some))
 input_of_key (k ∷ key) some = append-nil (padded (k ∷ key))
 
 -- a new hasher
-pub Holds_none : (out_len : ℕ) (key held : List ℕ) → length key ≤ 128 → held ≡ input_of key []
-    → Holds (record { out_len = out_len; state = initial_state out_len (length key); count = 0; held = held }) key []
+pub Holds_none : (out_len : ℕ) (key : List ℕ) (count : ℕ) (held : List ℕ) → length key ≤ 128 → count ≡ 0 → held ≡ input_of key []
+    → Holds (record { out_len = out_len; state = initial_state out_len (length key); count = count; held = held }) key []
 unfolding Holds state_after
-Holds_none out_len key held fits is =
+Holds_none out_len key count held fits none is =
     let first : last_block (input_of key []) ≡ 0 = omega (arith, length-input_of_none key fits) in
-    rw first (record { state_is = refl; count_is = refl }, is)
+    rw first (record { state_is = refl; count_is = none }, is)
 
 module _ (out_len : ℕ) (state : List ℕ) (count : ℕ) (held key text : List ℕ)
     (holds : Holds (record { out_len = out_len; state = state; count = count; held = held }) key text) where

@@ -19,4 +19,4 @@ returns-clause-empty c =
           let some : 0 < length key = grind (arith, nat_tests, c.is_empty.ensures, w.if-is_empty.false) in
           rw w.result-is (take_all 128 (padded key) (omega (arith, length-padded key)) ∙ sym (input_of_key key some))
     ] in
-    rw (c.initial_state.ensures, c.padded.ensures) (Holds_none c.args.out_len key _ (omega arith) held)
+    rw (c.initial_state.ensures, c.padded.ensures) (Holds_none c.args.out_len key _ _ (omega arith) (omega arith) held)

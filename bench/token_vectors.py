@@ -1,20 +1,24 @@
-"""Prints the tokens, wraps and key ids that the tests of paseto_seal compare with.
-
-It follows the PASETO and PASERK documents over hashlib's BLAKE2b and libsodium's XChaCha20 (the package
-libsodium23), and shares no code with the crate.
-"""
-
+#!/usr/bin/env python3
+"""Compares what the tests of blake2b_core, xchacha_core and paseto_seal expect, and the hashes in blake2b_core's
+proofs/Facts.antt, with what hashlib's BLAKE2b and libsodium's XChaCha20 (the package libsodium23) give; tokens, wraps
+and key ids by the PASETO and PASERK documents over these two. It shares no code with the crates. It names each value
+that is missing or differs, and exits with 1 where there is one."""
+import ast
 import base64
 import ctypes
 import ctypes.util
 import hashlib
+import pathlib
+import re
 import struct
+import sys
 
-sodium = ctypes.CDLL(ctypes.util.find_library("sodium") or "libsodium.so.23")
+sodium = ctypes.CDLL(ctypes.util.find_library('sodium') or 'libsodium.so.23')
+crates = pathlib.Path(__file__).resolve().parent.parent / 'crates'
 
 
 def b64(data):
-    return base64.urlsafe_b64encode(data).rstrip(b"=")
+    return base64.urlsafe_b64encode(data).rstrip(b'=')
 
 
 def blake2b(size, key, text):
@@ -28,45 +32,101 @@ def xchacha20(key, nonce, text):
 
 
 def pae(*pieces):
-    encoded = struct.pack("<Q", len(pieces))
+    encoded = struct.pack('<Q', len(pieces))
     for piece in pieces:
-        encoded += struct.pack("<Q", len(piece)) + piece
+        encoded += struct.pack('<Q', len(piece)) + piece
     return encoded
 
 
 def token(key, nonce, message, implicit):
-    header = b"v4.local."
-    secrets = blake2b(56, key, b"paseto-encryption-key" + nonce)
-    auth_key = blake2b(32, key, b"paseto-auth-key-for-aead" + nonce)
+    header = b'v4.local.'
+    secrets = blake2b(56, key, b'paseto-encryption-key' + nonce)
+    auth_key = blake2b(32, key, b'paseto-auth-key-for-aead' + nonce)
     cipher = xchacha20(secrets[:32], secrets[32:], message)
-    tag = blake2b(32, auth_key, pae(header, nonce, cipher, b"", implicit))
+    tag = blake2b(32, auth_key, pae(header, nonce, cipher, b'', implicit))
     return header + b64(nonce + cipher + tag)
 
 
 def wrap(by, nonce, key):
-    header = b"k4.local-wrap.pie."
-    secrets = blake2b(56, by, b"\x80" + nonce)
-    auth_key = blake2b(32, by, b"\x81" + nonce)
+    header = b'k4.local-wrap.pie.'
+    secrets = blake2b(56, by, b'\x80' + nonce)
+    auth_key = blake2b(32, by, b'\x81' + nonce)
     cipher = xchacha20(secrets[:32], secrets[32:], key)
     tag = blake2b(32, auth_key, header + nonce + cipher)
     return header + b64(tag + nonce + cipher)
 
 
 def key_id(key):
-    return b"k4.lid." + b64(blake2b(33, b"", b"k4.lid." + b"k4.local." + b64(key)))
+    return b'k4.lid.' + b64(blake2b(33, b'', b'k4.lid.' + b'k4.local.' + b64(key)))
 
 
-KEY = bytes(range(0x70, 0x90))
-NONCE = bytes.fromhex("df654812bac492663825520ba2f6e67cf5ca5bdc13d4e7507a98cc4c2fcc3ad8")
-SECRET = b'{"data":"this is a secret message","exp":"2022-01-01T00:00:00+00:00"}'
-ASSERTION = b'{"id":"0189","idx":1}'
+def numbers(text):
+    return bytes(int(number, 0) for number in re.findall(r'\w+', text))
 
-if __name__ == "__main__":
-    print(pae(b"test").hex())
-    print(token(KEY, bytes(32), SECRET, b"").decode())
-    print(token(KEY, NONCE, SECRET, b"").decode())
-    print(token(KEY, NONCE, SECRET, ASSERTION).decode())
-    print(token(KEY, NONCE, b"", ASSERTION).decode())
-    print(wrap(KEY, NONCE, bytes(range(32))).decode())
-    print(key_id(bytes(32)).decode())
-    print(key_id(KEY).decode())
+
+def expected(source, name):
+    """The bytes that a test's source has under this name; None where it has none."""
+    found = re.search(rf'(?:const|let) {name}\b[^=]*=\s*\*?(b"(?:[^"\\]|\\.)*"|\[[^]]*\]);', source)
+    return found and (numbers(found[1][1:-1]) if found[1].startswith('[') else ast.literal_eval(found[1]))
+
+
+def hashes():
+    source = (crates / 'blake2b_core/src/tests.rt').read_text()
+    yield 'HASH_OF_ABC', expected(source, 'HASH_OF_ABC'), blake2b(64, b'', b'abc')
+    for size in (1, 20, 33, 63):
+        yield f'HASH_IN_{size}', expected(source, f'HASH_IN_{size}'), blake2b(size, b'key', b'abc')
+    rows = re.findall(r'\((\d+), 0x(\w+), 0x(\w+)\)', source)
+    text, key = bytes(i % 251 for i in range(300)), bytes(range(64, 128))
+    for size in (0, 1, 127, 128, 129, 255, 256, 300):
+        row = [found[1:] for found in rows if int(found[0]) == size]
+        computed = (blake2b(8, b'', text[:size]), blake2b(8, key, text[:size]))
+        yield f'HASHES at {size}', row and tuple(bytes.fromhex(part.replace('_', '')) for part in row[0]), computed
+
+
+def facts():
+    source = (crates / 'blake2b_core/proofs/Facts.antt').read_text()
+    for name, computed in (
+        ('hash_of_abc', blake2b(64, b'', b'abc')),
+        ('hash_of_nothing', blake2b(32, b'', b'')),
+        ('hash_with_key', blake2b(20, bytes(range(16)), bytes(range(129)))),
+    ):
+        found = re.search(rf'pub {name} : [^≡]*≡([^[]*)\[\]', source)
+        yield name, found and numbers(found[1]), computed
+
+
+def streams():
+    source = (crates / 'xchacha_core/src/tests.rt').read_text()
+    key, nonce, text = (expected(source, name) for name in ('KEY', 'NONCE', 'TEXT'))
+    yield 'SEALED', expected(source, 'SEALED'), key and nonce and text and xchacha20(key, nonce, text)
+
+
+def tokens():
+    source = (crates / 'paseto_seal/src/tests.rt').read_text()
+    key, counted, zeros = bytes(range(0x70, 0x90)), bytes(range(32)), bytes(32)
+    nonce = bytes.fromhex('df654812bac492663825520ba2f6e67cf5ca5bdc13d4e7507a98cc4c2fcc3ad8')
+    secret = b'{"data":"this is a secret message","exp":"2022-01-01T00:00:00+00:00"}'
+    assertion = b'{"id":"0189","idx":1}'
+    for name, computed in (
+        ('KEY', key),
+        ('NONCE', nonce),
+        ('COUNTED_KEY', counted),
+        ('SECRET', secret),
+        ('ASSERTION', assertion),
+        ('FIRST', token(key, zeros, secret, b'')),
+        ('SECOND', token(key, nonce, secret, b'')),
+        ('ASSERTED', token(key, nonce, secret, assertion)),
+        ('EMPTY', token(key, nonce, b'', assertion)),
+        ('WRAP', wrap(key, nonce, counted)),
+        ('encoded', pae(b'test')),
+    ):
+        yield name, expected(source, name), computed
+    ids = [found.encode() for found in re.findall(r'b"(k4\.lid\.[^"]*)"', source)]
+    yield 'the ids', ids, [key_id(zeros), key_id(key)]
+
+
+compared = [value for values in (hashes, facts, streams, tokens) for value in values()]
+wrong = [(name, told, computed) for name, told, computed in compared if told is None or told != computed]
+for name, told, computed in wrong:
+    print(f'{name}: expected {told}, computed {computed}')
+print(f'{len(compared) - len(wrong)} of {len(compared)} values are as computed')
+sys.exit(1 if wrong else 0)

@@ -49,9 +49,12 @@ def unpacked(data, at=0):
     return items, at
 
 
-def frame(call):
-    payload = packed(call)
+def framed(payload):
     return struct.pack('>I', len(payload)) + payload
+
+
+def frame(call):
+    return framed(packed(call))
 
 
 def read_frame(stream):

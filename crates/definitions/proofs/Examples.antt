@@ -20,6 +20,7 @@ use Rattle.definitions.specs.Search.{is_shown_before, hit_bytes, IsPage, FitsPag
 use Rattle.definitions.specs.Replies.{PlainAnswer, began_id, stored_index, hit_list, unknown_id, random_fault, id_taken, no_memory, bad_request, PlainReply, plain_reply_bytes}
 use Rattle.definitions.specs.Step.{Used, used_nothing, read_and_drew, read_clock, PlainRefuses, Answers, PlainStep, unread, start_failed, start_taken, start_done, start_short, end_unbegun, end_again, end_done, end_short, searched, search_short}
 use Rattle.definitions.specs.Examples.{WorkedIntegers, WorkedTexts, WorkedArrays, WorkedNoItems, WorkedFrames, WorkedStreams, WorkedIds, first_time, first_id, first_digits, ten_bytes, ls, start_ls, start_payload, end_ls, end_payload, all_hits, all_payload, third_hit, last_hits, WorkedCalls, WorkedFaults, ls_ended, pwd, pwd_ended, one_running, WorkedJournals, hit_at, WorkedMatches, WorkedSearches, WorkedReplies, at_front, used_by_start, used_by_end, nothing_used, three_replies, WorkedSteps, WorkedWants, WorkedRuns}
+use Rattle.definitions.proofs.Search.{whole_page}
 use Rattle.definitions.proofs.Among.{Among-from_place}
 use Rattle.definitions.proofs.Calls.{call_read, one_call, call_never_wrong}
 use Rattle.definitions.proofs.Numbered.{wrong_at}
@@ -499,10 +500,6 @@ newest_sorted zero d low high = refl
 newest_sorted (suc zero) d low high = refl
 newest_sorted (suc (suc k)) d low high = absurd (omega arith)
 
--- a page of all that is left
-whole_page : (limit : ℕ) (page : List HistoryRecord) → FitsPage hit_bytes limit page → IsPage hit_bytes limit page page
-whole_page limit page fits = record { rest = []; front = sym (append-nil page); fits = fits; most = λ next others e more. absurd cc }
-
 pub searches : WorkedSearches
 searches = record {
   two = record { rest = pwd_ended ∷ []; front = refl; fits = (omega arith, inr (omega arith)); most = λ next others e more. let many = more.0 in omega (arith, many) };
@@ -526,10 +523,10 @@ searches = record {
     ];
   };
   none_allowed = λ fits. let h = fits.0 in omega (arith, h);
-  answer = record { in_order = newest_first; matching = turned; sorted = newest_sorted; cut = whole_page 10 newest_first (omega arith, inr (omega arith)) };
-  without_first = record { in_order = newest_first; matching = turned; sorted = newest_sorted; cut = whole_page 10 (hit_at 2 30 (codes "LS -l") ∷ hit_at 4 10 (codes "ls") ∷ []) (omega arith, inr (omega arith)) };
+  answer = record { in_order = newest_first; matching = turned; sorted = newest_sorted; cut = whole_page hit_bytes 10 newest_first (omega arith, inr (omega arith)) };
+  without_first = record { in_order = newest_first; matching = turned; sorted = newest_sorted; cut = whole_page hit_bytes 10 (hit_at 2 30 (codes "LS -l") ∷ hit_at 4 10 (codes "ls") ∷ []) (omega arith, inr (omega arith)) };
   first_alone = record { in_order = newest_first; matching = turned; sorted = newest_sorted; cut = record { rest = hit_at 2 30 (codes "LS -l") ∷ hit_at 4 10 (codes "ls") ∷ []; front = refl; fits = (omega arith, inl (omega arith)); most = λ next others e more. let many = more.0 in omega (arith, many) } };
-  behind_the_last = record { in_order = newest_first; matching = turned; sorted = newest_sorted; cut = whole_page 10 [] (omega arith, inl (omega arith)) };
+  behind_the_last = record { in_order = newest_first; matching = turned; sorted = newest_sorted; cut = whole_page hit_bytes 10 [] (omega arith, inl (omega arith)) };
 }
 
 -- ---- replies
@@ -554,7 +551,7 @@ replies_worked = record {
 -- ---- steps and runs
 
 shows_ls : IsAnswer all_hits (ls_ended ∷ []) (ls_ended ∷ [])
-shows_ls = record { in_order = ls_ended ∷ []; matching = IsPermutation-refl (ls_ended ∷ []); sorted = λ k d low high. absurd (omega arith); cut = whole_page 10 (ls_ended ∷ []) (omega arith, inl (omega arith)) }
+shows_ls = record { in_order = ls_ended ∷ []; matching = IsPermutation-refl (ls_ended ∷ []); sorted = λ k d low high. absurd (omega arith); cut = whole_page hit_bytes 10 (ls_ended ∷ []) (omega arith, inl (omega arith)) }
 
 begins : PlainStep [] start_payload used_by_start (at_front 1 (began_id first_id)) (begun ls ∷ [])
 begins = start_done (codes "ls") (codes "/") (codes "s1") (codes "h:u") first_time ten_bytes start_spelled refl refl refl (record { journal = refl; reply_is = refl })

@@ -94,6 +94,10 @@ module _ {X : Type 0} (bytes_of : X → ℕ) (limit : ℕ) where
       let one : FitsPage bytes_of limit ((page ++ next ∷ []) ++ others) = subst (λ (hs : List X). FitsPage bytes_of limit hs) (e ∙ sym (append_assoc page (next ∷ []) others)) fits in
       absurd (p.most next (others ++ b) r (FitsPage-front (page ++ next ∷ []) others one))
 
+  -- all that is left is a page, where it fits
+  pub whole_page : (page : List X) → FitsPage bytes_of limit page → IsPage bytes_of limit page page
+  whole_page page fits = record { rest = []; front = sym (append-nil page); fits = fits; most = λ next others e more. absurd cc }
+
   pub IsPage-one : (all page other : List X) → IsPage bytes_of limit all page → IsPage bytes_of limit all other → page ≡ other
   IsPage-one all page other p q =
       elim (fronts page other p.rest q.rest (sym p.front ∙ q.front)) [

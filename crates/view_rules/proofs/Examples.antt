@@ -7,6 +7,7 @@ use Rattle.std.proofs.lemmas.List.Sorted.{IsPermutation-refl}
 use Rattle.std.specs.declared.cmp.Ordering.TheVariants.{Less}
 use Rattle.definitions.specs.Journal.{HistoryRecord}
 use Rattle.definitions.specs.Search.{is_shown_before, hit_bytes, IsPage, FitsPage}
+use Rattle.definitions.proofs.Search.{whole_page}
 use Rattle.definitions.proofs.Among.{HaveOwnIds-none}
 use Rattle.record_rules.specs.Records.{SealedRecord}
 use Rattle.record_rules.proofs.Members.{Has}
@@ -354,16 +355,12 @@ newest_sorted zero d low high = refl
 newest_sorted (suc zero) d low high = refl
 newest_sorted (suc (suc k)) d low high = absurd (omega arith)
 
--- a page of all that is left
-whole_page : (limit : ℕ) (page : List HistoryRecord) → FitsPage hit_bytes limit page → IsPage hit_bytes limit page page
-whole_page limit page fits = record { rest = []; front = sym (append-nil page); fits = fits; most = λ next others e more. absurd cc }
-
 pub searches : WorkedSearches
 searches = record {
-  newest_first = record { in_order = newest; found = turned; sorted = newest_sorted; cut = whole_page 10 newest (omega arith, inr (omega arith)) };
-  unique = record { in_order = newest; found = turned; sorted = newest_sorted; cut = whole_page 10 (last_a ∷ only_b ∷ []) (omega arith, inr (omega arith)) };
+  newest_first = record { in_order = newest; found = turned; sorted = newest_sorted; cut = whole_page hit_bytes 10 newest (omega arith, inr (omega arith)) };
+  unique = record { in_order = newest; found = turned; sorted = newest_sorted; cut = whole_page hit_bytes 10 (last_a ∷ only_b ∷ []) (omega arith, inr (omega arith)) };
   limit_1 = record { in_order = newest; found = turned; sorted = newest_sorted; cut = record { rest = only_b ∷ []; front = refl; fits = (omega arith, inl (omega arith)); most = λ next others e more. let many = more.0 in omega arith } };
-  offset_1 = record { in_order = newest; found = turned; sorted = newest_sorted; cut = whole_page 10 (only_b ∷ []) (omega arith, inl (omega arith)) };
+  offset_1 = record { in_order = newest; found = turned; sorted = newest_sorted; cut = whole_page hit_bytes 10 (only_b ∷ []) (omega arith, inl (omega arith)) };
   offset_5 = record { in_order = newest; found = turned; sorted = newest_sorted; cut = page_of_none 10 };
   capitals = refl;
   prefix = refl;

@@ -5,6 +5,7 @@ use Rattle.std.specs.List.{Contains}
 use Rattle.std.specs.Cmp.Lexicographic.{slice_cmp}
 use Rattle.std.specs.Ordering.{nat_cmp}
 use Rattle.std.specs.declared.cmp.Ordering.TheVariants.{Less}
+use Rattle.definitions.proofs.Search.{whole_page}
 use Rattle.record_rules.proofs.Members.{Has}
 use Rattle.definitions.specs.Search.{FitsPage}
 use Rattle.view_rules.specs.Answers.{Named, named_bytes, Rises, IsAbove, IsListOf}
@@ -45,7 +46,7 @@ three_rise = ((refl, (refl, tt)), ((refl, tt), (tt, tt)))
 
 -- a page of all that is left
 pub whole_list : (limit : ℕ) (There : Named → Type 0) (after : List ℕ) (page : List Named) → ((item : Named) → Contains page item ↔ (There item × IsAbove after item.name)) → Rises page → FitsPage named_bytes limit page → IsListOf There after limit page
-whole_list limit There after page same rises fits = record { all = page; same = same; rises = rises; cut = record { rest = []; front = sym (append-nil page); fits = fits; most = λ next others e more. absurd cc } }
+whole_list limit There after page same rises fits = record { all = page; same = same; rises = rises; cut = whole_page named_bytes limit page fits }
 
 -- ---- above a name
 

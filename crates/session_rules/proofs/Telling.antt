@@ -1,5 +1,5 @@
 -- What a reply tells of what went wrong outside: a step alone never tells it.
-use Rattle.std.proofs.Common.{◌≡◌, ℕ, ◌+◌, Bool, true, false, cond, inl, inr, List, [], ◌∷◌, length, filter, Some, refl, sym, ◌∙◌, ap, subst, arith}
+use Rattle.std.proofs.Common.{◌≡◌, ℕ, ◌+◌, Bool, true, false, cond, inl, inr, List, [], ◌∷◌, length, filter, Some, refl, sym, ◌∙◌, ap, subst, arith, map}
 use Rattle.std.specs.Prelude.{slice_get, All}
 use Rattle.std.proofs.lemmas.Bool.{true≢false}
 use Rattle.definitions.specs.Spelling.{IsBytes}
@@ -7,13 +7,13 @@ use Rattle.definitions.specs.Calls.{WrongAt}
 use Rattle.definitions.specs.Step.{Used}
 use Rattle.record_rules.specs.Records.{Caller, Entry}
 use Rattle.step_rules.specs.Calls.{Call}
-use Rattle.step_rules.specs.Answers.{Refusal, too_long, unknown_id, unknown_name, full, id_taken, random_fault, disk_fault, no_memory, bad_request, Answer, began, stored, hits, value_is, keys, aliases, places, refused}
+use Rattle.step_rules.specs.Answers.{Refusal, too_long, unknown_id, unknown_name, full, id_taken, random_fault, disk_fault, no_memory, bad_request, Answer, began, stored, hits, value_is, keys, aliases, places, refused, Reply}
 use Rattle.step_rules.specs.Store.{KeyedStore}
 use Rattle.step_rules.specs.Step.{Draft, start_draft, record_draft, Unknown, end_unknown, delete_unknown, alias_unknown, draft_answer, Shows, shows_hits, shows_value, shows_no_value, shows_keys, shows_aliases, shows_places, Step, long_step, unknown_step, full_step, taken_step, append_step, read_step}
 use Rattle.step_rules.specs.Turn.{UsedSome, used_clock, used_bytes}
 use Rattle.request_rules.specs.Requests.{call_kinds}
 use Rattle.request_rules.proofs.Requests.{one_request_place, call_never_wrong}
-use Rattle.session_rules.specs.Sessions.{Asked, a_call, a_page, SessionAnswer, to_call, to_page, SessionReply, Told, told_step, told_disk_fault, told_random_fault, told_no_memory, told_no_memory_to_read, told_bad, told_no_memory_for_bad, told_page, told_page_refused, told_page_disk_fault, told_page_no_memory, Serves, Session, tells_random_fault, random_faults}
+use Rattle.session_rules.specs.Sessions.{Asked, a_call, a_page, SessionAnswer, to_call, to_page, SessionReply, Told, told_step, told_disk_fault, told_random_fault, told_no_memory, told_no_memory_to_read, told_bad, told_no_memory_for_bad, told_page, told_page_refused, told_page_disk_fault, told_page_no_memory, Serves, Session, tells_random_fault, random_faults, call_reply}
 use Rattle.session_rules.specs.Reading.{Reads, ReadsEach}
 use Rattle.session_rules.specs.Laws.{TellsBad}
 use Rattle.session_rules.proofs.Sessions.{told_at}
@@ -189,3 +189,34 @@ bad_is_told store seen number payloads asked used replies journal k payload repl
     let here = read_at payloads asked k payload bytes reads at_k in
     let told = told_at store journal number (length seen) 1 asked used replies session.commits k here.request reply session.serves here.at told_k in
     told_is_bad payload here.bytes store journal _ here.request reply.front told.used reply.answer told.commit told.told here.reads
+
+-- ---- what payloads are told
+
+module _ (payload : List ℕ) (store : KeyedStore) (journal : List Entry) (caller : Caller) (asked : Asked) (front : ℕ) (used : Used) (answer : SessionAnswer) (commit : List Entry) where
+  told_as_call : Told store journal caller asked front used answer commit → Reads payload asked → (given : Answer) × (answer ≡ to_call given)
+  told_as_call (told_step _ _ given _ _ _ same) reads = (given, same)
+  told_as_call (told_disk_fault _ _ _ _ same _) reads = (refused disk_fault, same)
+  told_as_call (told_random_fault _ _ _ _ _ _ same _) reads = (refused random_fault, same)
+  told_as_call (told_no_memory _ _ _ _ same _) reads = (refused no_memory, same)
+  told_as_call (told_no_memory_to_read _ _ _ _ same _) reads = (refused no_memory, same)
+  told_as_call (told_bad place _ _ same _) reads = (refused (bad_request place), same)
+  told_as_call (told_no_memory_for_bad _ _ _ same _) reads = (refused no_memory, same)
+  told_as_call (told_page _ _ _ is _ _ _ _) reads = absurd (subst (Reads payload) is reads)
+  told_as_call (told_page_refused _ _ _ is _ _ _ _) reads = absurd (subst (Reads payload) is reads)
+  told_as_call (told_page_disk_fault _ _ is _ _ _) reads = absurd (subst (Reads payload) is reads)
+  told_as_call (told_page_no_memory _ _ is _ _ _) reads = absurd (subst (Reads payload) is reads)
+
+module _ (store : KeyedStore) (journal : List Entry) (number : ℕ) where
+  pub served_as_calls : (payloads : List (List ℕ)) (from call : ℕ) (asked : List Asked) (used : Used) (replies : List SessionReply) (commits : List Entry) → Serves store journal number from call asked used replies commits → ReadsEach payloads asked → (given : List Reply) × (replies ≡ map call_reply given)
+  served_as_calls [] from call [] used [] commits serves reads = ([], refl)
+  served_as_calls (payload ∷ payloads) from call (a ∷ more) used (r ∷ replies) commits serves reads =
+      let one = serves.0 in
+      let here = told_as_call payload store journal _ a r.front one.used_here r.answer one.commit one.told reads.0 in
+      let later = served_as_calls payloads r.front (call + 1) more one.used_later replies one.commits_later serves.1 reads.1 in
+      let reply : Reply = record { front = r.front; answer = here.0 } in
+      let same : r ≡ call_reply reply = ap (λ (x : SessionAnswer). record { front = r.front; answer = x }) here.1 in
+      (reply ∷ later.0, ap (λ (x : SessionReply). x ∷ replies) same ∙ ap (λ (xs : List SessionReply). call_reply reply ∷ xs) later.1)
+  served_as_calls [] from call (a ∷ more) used replies commits serves reads = absurd reads
+  served_as_calls (payload ∷ payloads) from call [] used replies commits serves reads = absurd reads
+  served_as_calls [] from call [] used (r ∷ replies) commits serves reads = absurd serves
+  served_as_calls (payload ∷ payloads) from call (a ∷ more) used [] commits serves reads = absurd serves

@@ -1,5 +1,5 @@
 -- The laws of sessions, as statements. Each is the contract of the function of its name.
-use Rattle.std.specs.Prelude.{◌≡◌, ◌≢◌, ℕ, ◌+◌, ◌≤◌, ◌⊎◌, List, [], ◌∷◌, ◌++◌, length, slice_get, All, false, Some}
+use Rattle.std.specs.Prelude.{◌≡◌, ◌≢◌, ℕ, ◌+◌, ◌≤◌, ◌⊎◌, List, [], ◌∷◌, ◌++◌, length, map, slice_get, All, false, Some}
 use Rattle.std.specs.List.{Contains, filter}
 use Rattle.definitions.specs.Spelling.{IsBytes}
 use Rattle.definitions.specs.Calls.{WrongAt}
@@ -126,6 +126,11 @@ pub record AreReadAs (payloads : List (List ℕ)) : Type 0 where
 
 abbrev pub PayloadsAreRead : Type 0
 PayloadsAreRead = (payloads : List (List ℕ)) → All IsBytes payloads → AreReadAs payloads
+
+-- Over the frames of payloads every reply is one to a call, so its bytes are those of calls.
+abbrev pub FramesGetCallReplies : Type 0
+FramesGetCallReplies = (store : KeyedStore) (seen : List Entry) (number : ℕ) (payloads : List (List ℕ)) (asked : List Asked) (used : Used) (replies : List SessionReply) (journal : List Entry) → Session store seen number asked used replies journal → ReadsEach payloads asked
+    → (given : List Reply) × (replies ≡ map call_reply given)
 
 -- In a session over the frames of these payloads a reply tells of a bad request only where no call is read, and tells the place. Where no
 -- call is read it tells that, or that memory was wanting.

@@ -8,7 +8,7 @@
 //! Each function has an empty body, and its contract is the law that its name says.
 #![tactic(auto)]
 
-ghost use Rattle.session_rules.specs.Laws.{EachIsAnswered, RepliesAtPoints, PointsFollow, CommitsAreOwn, SessionsDontOverlap, OthersLeaveIt, TurnMakesLonger, PageTurnMakesLonger, SessionBegins, PayloadIsRead, PayloadsAreRead, BadRequestIsTold, TurnsFollow, RandomFaultsAreDraws, PassGrowsByItsOwn, PassStays, MovesFollow, PassKnowsItself, DiskFaultsAreCounted, SplitStartsAnew, JoinKeepsBoth};
+ghost use Rattle.session_rules.specs.Laws.{EachIsAnswered, RepliesAtPoints, PointsFollow, CommitsAreOwn, SessionsDontOverlap, OthersLeaveIt, TurnMakesLonger, PageTurnMakesLonger, SessionBegins, PayloadIsRead, PayloadsAreRead, FramesGetCallReplies, BadRequestIsTold, TurnsFollow, RandomFaultsAreDraws, PassGrowsByItsOwn, PassStays, MovesFollow, PassKnowsItself, DiskFaultsAreCounted, SplitStartsAnew, JoinKeepsBoth};
 ghost use Rattle.session_rules.specs.Examples.{WorkedReplies, WorkedSessions, WorkedPages, WorkedReading, WorkedPass};
 
 /// Each request of a session gets one reply.
@@ -66,6 +66,11 @@ pub fn a_payload_is_one_request()
 /// A list of payloads is one list of requests, item by item.
 pub fn payloads_are_requests()
     ensures { PayloadsAreRead }
+{}
+
+/// What is asked by payloads is answered as calls are: a page comes by no payload.
+pub fn frames_get_call_replies()
+    ensures { FramesGetCallReplies }
 {}
 
 /// A bad request is told only where no call is read, with the place. There it is told, or want of memory.

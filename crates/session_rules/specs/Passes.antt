@@ -56,10 +56,11 @@ pub record PassMoves (old new : Pass) : Type 0 where
 abbrev pub split_off : Pass → ℕ → Pass
 split_off pass number = record pass { number = number; known = number; turns = [] }
 
+-- of two lists the longer one, or the first
 abbrev pub longer : List Entry → List Entry → List Entry
 longer one other = if nat_lt (length one) (length other) then other else one
 
--- The pass when another one is joined to it: it has seen what the one of them had that had seen more, and keeps the greater counts.
+-- The pass when another one is joined to it: it has seen the longer of what both had seen, keeps the greater counts, and keeps its turns.
 abbrev pub joined : Pass → Pass → Pass
 joined pass other = record pass { seen = longer pass.seen other.seen; known = max pass.known other.known; faults = max pass.faults other.faults }
 

@@ -182,3 +182,36 @@ CutAfter-one limit (p ∷ ps) (q ∷ qs) rest others a b e =
     let one = same_first p q (frames ps ++ rest) (frames qs ++ others) (omega arith) (omega arith) joined in
     let others_are = CutAfter-one (limit - 1) ps qs rest others (CutAfter-tail limit p ps rest a) (CutAfter-tail limit q qs others b) one.1 in
     (ap (λ (x : List ℕ). x ∷ ps) one.0 ∙ ap (λ (xs : List (List ℕ)). q ∷ xs) others_are.0, others_are.1)
+
+-- an input is cut at its end, or behind as many of its frames as are read
+ending_stops : (ending : StreamEnding) (rest : List ℕ) → IsStreamEnding ending rest → EndsStream rest
+ending_stops whole_stream rest none = inl none
+ending_stops cut_stream rest cut = inr (inl cut)
+ending_stops long_stream rest long = inr (inr long)
+
+first_frames : (limit : ℕ) (payloads : List (List ℕ)) (rest : List ℕ) → All (λ (p : List ℕ). length p ≤ most_payload_bytes) payloads → EndsStream rest
+    → (front : List (List ℕ)) × (behind : List ℕ) × CutAfter limit front behind × (frames payloads ++ rest ≡ frames front ++ behind)
+first_frames limit [] rest short ends = ([], rest, record { short = short; few = omega arith; ends = inr ends }, refl)
+first_frames zero (p ∷ ps) rest short ends = ([], frames (p ∷ ps) ++ rest, record { short = All-nil (λ (p : List ℕ). length p ≤ most_payload_bytes); few = omega arith; ends = inl refl }, refl)
+first_frames (suc limit) (p ∷ ps) rest short ends =
+    let more = first_frames limit ps rest (λ k d lt. short (suc k) d (omega arith)) ends in
+    let cut = more.2 in (
+      p ∷ more.0,
+      more.1,
+      record {
+        short = All-cons (λ (p : List ℕ). length p ≤ most_payload_bytes) p more.0 (short 0 [] (omega arith)) cut.short;
+        few = let few = cut.few in omega arith;
+        ends = elim cut.ends as (λ _. (length (p ∷ more.0) ≡ suc limit) ⊎ EndsStream more.1) [
+          | inl full ↦ inl (omega (arith, full))
+          | inr stops ↦ inr stops
+        ];
+      },
+      append_assoc (frame p) (frames ps) rest ∙ ap (λ (x : List ℕ). frame p ++ x) more.3 ∙ sym (append_assoc (frame p) (frames more.0) more.1),
+    )
+
+pub CutAfter-some : (limit : ℕ) (bytes : List ℕ) → IsBytes bytes → (payloads : List (List ℕ)) × (rest : List ℕ) × CutAfter limit payloads rest × (bytes ≡ frames payloads ++ rest)
+CutAfter-some limit bytes are =
+    let whole = StreamEnds-some bytes are in
+    let ends = whole.2 in
+    let cut = first_frames limit whole.0 ends.rest ends.short (ending_stops whole.1 ends.rest ends.ends) in
+    (cut.0, cut.1, cut.2, ends.are ∙ cut.3)

@@ -17,7 +17,8 @@ pub fn a_whole_input_ends_in_one_way()
     ensures one { (bytes : List ℕ) (ps qs : List (List ℕ)) (a b : StreamEnding) → StreamEnds bytes ps a → StreamEnds bytes qs b → (ps ≡ qs) × (a ≡ b) }
 {}
 
-/// Where at most so many frames are read of an input, it is cut into payloads and a rest in one way.
+/// Where at most so many frames are read of an input, it is cut into payloads and a rest in some way, and in one only.
 pub fn a_limited_stream_is_cut_in_one_way()
-    ensures { (limit : ℕ) (ps qs : List (List ℕ)) (rest others : List ℕ) → CutAfter limit ps rest → CutAfter limit qs others → frames ps ++ rest ≡ frames qs ++ others → (ps ≡ qs) × (rest ≡ others) }
+    ensures some { (limit : ℕ) (bytes : List ℕ) → IsBytes bytes → (payloads : List (List ℕ)) × (rest : List ℕ) × CutAfter limit payloads rest × (bytes ≡ frames payloads ++ rest) }
+    ensures one { (limit : ℕ) (ps qs : List (List ℕ)) (rest others : List ℕ) → CutAfter limit ps rest → CutAfter limit qs others → frames ps ++ rest ≡ frames qs ++ others → (ps ≡ qs) × (rest ≡ others) }
 {}

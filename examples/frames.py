@@ -70,5 +70,6 @@ def end(identity, duration, status):
     return frame([2, identity, duration, status])
 
 
-def search(text='', mode=0, offset=0, limit=10):
-    return frame([4, mode, 0, '', text, 0, offset, limit])
+def search(offset=0, limit=10, mode=0, past=''):
+    """A search for all: a text beside the filter is read past, and the mode makes no difference."""
+    return frame([4, mode, 0, past, '', 0, offset, limit])

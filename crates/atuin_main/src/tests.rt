@@ -20,6 +20,8 @@ const END_OF_ANOTHER: &[u8] =
 
 const BEGUN: &[u8] = b"\x00\x00\x00\x25\x93\x00\x01\xd9\x20018bcfe5680070018203040506070809";
 
+const SEARCH_PAST_A_TEXT: &[u8] = b"\x00\x00\x00\x0a\x98\x04\x00\x00\xa1x\xa0\x00\x00\x0a";
+
 const BEGUN_LATER: &[u8] = b"\x00\x00\x00\x25\x93\x00\x01\xd9\x20018bcfe56be870018203040506070809";
 
 const STORED: &[u8] = b"\x00\x00\x00\x04\x93\x00\x02\x00";
@@ -111,7 +113,13 @@ fn check<R: AllocGlobal + Abort + Threads + Sync>(
 #[test]
 fn commands_begin_end_and_are_found(rt: HostRuntime) -> Result<(), Fail> {
     check(&rt, &[], NONE, &[], 0)?;
-    check(&rt, &[START, END, SEARCH], NONE, &[BEGUN, STORED, FOUND], 0)?;
+    check(
+        &rt,
+        &[START, END, SEARCH, SEARCH_PAST_A_TEXT],
+        NONE,
+        &[BEGUN, STORED, FOUND, FOUND],
+        0,
+    )?;
     check(
         &rt,
         &[END_OF_ANOTHER, START],
@@ -136,9 +144,13 @@ fn payloads_that_are_no_call_get_their_place(rt: HostRuntime) -> Result<(), Fail
     let one_byte_more = b"\x00\x00\x00\x0f\x95\x01\xa2ls\xa1/\xa2s1\xa3h:u\x00".as_slice();
     let billions = b"\x00\x00\x00\x05\xdd\xff\xff\xff\xff".as_slice();
     let text_cut = b"\x00\x00\x00\x07\x95\x01\xdb\xff\xff\xff\xff".as_slice();
+    let query = b"\x00\x00\x00\x0b\x98\x04\x00\x00\xa0\xa2ls\x00\x00\x0a".as_slice();
+    let number_for_a_text = b"\x00\x00\x00\x09\x98\x04\x00\x00\x05\xa0\x00\x00\x0a".as_slice();
     let place_0 = b"\x00\x00\x00\x04\x93\x09\x00\x00".as_slice();
     let place_1 = b"\x00\x00\x00\x04\x93\x09\x00\x01".as_slice();
     let place_2 = b"\x00\x00\x00\x04\x93\x09\x00\x02".as_slice();
+    let place_4 = b"\x00\x00\x00\x04\x93\x09\x00\x04".as_slice();
+    let place_5 = b"\x00\x00\x00\x04\x93\x09\x00\x05".as_slice();
     let place_14 = b"\x00\x00\x00\x04\x93\x09\x00\x0e".as_slice();
     check(
         &rt,
@@ -149,10 +161,14 @@ fn payloads_that_are_no_call_get_their_place(rt: HostRuntime) -> Result<(), Fail
             one_byte_more,
             billions,
             text_cut,
+            query,
+            number_for_a_text,
             START,
         ],
         NONE,
-        &[place_1, place_0, place_1, place_14, place_0, place_2, BEGUN],
+        &[
+            place_1, place_0, place_1, place_14, place_0, place_2, place_5, place_4, BEGUN,
+        ],
         0,
     )
 }

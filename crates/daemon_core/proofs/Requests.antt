@@ -6,7 +6,7 @@ use Rattle.at_edge.proofs.EntropyLaws.{Drew-nothing}
 use Rattle.at_edge.proofs.ClockLaws.{Told-nothing}
 use Rattle.at_edge.proofs.CountLaws.{RoseBy-nothing}
 use Rattle.definitions.specs.Spelling.{IsBytes, TextFits, SpellsText, TextForm, fixstr, str_8, str_16, str_32, text_limit}
-use Rattle.definitions.specs.Calls.{Kind, PlainCall, SearchQuery, SpellsCall, SpellsArguments, WrongAt, plain_kinds, start_kinds, arguments, search_call}
+use Rattle.definitions.specs.Calls.{Kind, PlainCall, SearchMode, SpellsCall, SpellsArguments, WrongAt, plain_kinds, start_kinds, arguments, search_call}
 use Rattle.definitions.specs.Reading.{call_at}
 use Rattle.definitions.specs.Journal.{JournalEntry}
 use Rattle.definitions.specs.Replies.{PlainReply, plain_answer_bytes, plain_reply_bytes, no_memory, bad_request}
@@ -95,12 +95,12 @@ module _ (rand rand_new : EntropySeen) (clock clock_new : ClockSeen) (old new : 
     written = written;
   }
 
-  pub answers_search : (query : SearchQuery) (reply : PlainReply)
-      → ((bytes : List ℕ) → SpellsCall (search_call query) bytes → PlainStep old bytes used_nothing reply old) → reply.front ≡ length old
-      → SpellsCall (search_call query) payload → WritesOr reply before after → AnswersPlain rand rand clock clock old old payload before after
-  answers_search query reply step front spelled (inl written) = answers_nothing reply (step payload spelled) written
-  answers_search query reply step front spelled (inr refused) =
-      answers_nothing (answered_at old no_memory) (search_refused old query (answered_at old no_memory) refl payload spelled)
+  pub answers_search : (mode : SearchMode) (past : List ℕ) (offset limit : ℕ) (reply : PlainReply)
+      → ((bytes : List ℕ) → SpellsCall (search_call mode past offset limit) bytes → PlainStep old bytes used_nothing reply old) → reply.front ≡ length old
+      → SpellsCall (search_call mode past offset limit) payload → WritesOr reply before after → AnswersPlain rand rand clock clock old old payload before after
+  answers_search mode past offset limit reply step front spelled (inl written) = answers_nothing reply (step payload spelled) written
+  answers_search mode past offset limit reply step front spelled (inr refused) =
+      answers_nothing (answered_at old no_memory) (search_refused old mode past offset limit (answered_at old no_memory) refl payload spelled)
       (refused ∙ ap (λ (n : ℕ). before ++ plain_answer_bytes n no_memory) front)
 
   pub answers_wrong : (place left front : ℕ) → IsBytes payload → call_at plain_kinds payload ≡ Err left → place + left ≡ length payload → front ≡ length old

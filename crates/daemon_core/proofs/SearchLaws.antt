@@ -1,82 +1,55 @@
 -- The parts of a search, over plain lists.
-use Rattle.std.proofs.Common.{◌≡◌, ℕ, ◌+◌, ◌-◌, ◌<◌, ◌≤◌, ◌^◌, min, Bool, true, false, cond, ◌&&◌, ◌||◌, ◌==◌, nat_lt, eqb, List, [], ◌∷◌, ◌++◌, length, refl, ap, ap₂, zero-add, sym, ◌∙◌, subst, arith, suc, take, drop, slice_index_or, ◌⊎◌, inl, inr}
+use Rattle.std.proofs.Common.{◌≡◌, ℕ, ◌+◌, ◌-◌, ◌<◌, ◌≤◌, ◌^◌, min, true, false, ◌&&◌, ◌||◌, ◌==◌, nat_lt, List, [], ◌∷◌, ◌++◌, length, refl, ap, ap₂, zero-add, sym, ◌∙◌, subst, arith, suc, take, drop, slice_index_or, ◌⊎◌, inl, inr}
 use denote.Ref.{Bor}
-use Rattle.std.specs.List.{filter, sum_by, starts_with}
+use Rattle.std.specs.List.{sum_by}
 use Rattle.std.specs.List.Sorted.{IsPermutation, IsSortedBy}
 use Rattle.std.specs.Cmp.{IsStrictWeakOrder}
 use Rattle.std.proofs.lemmas.Bool.Decides.{nat_tests}
 use Rattle.std.proofs.lemmas.List.{take_more, map-append, map_more, drop-map, get_or-map, length-map, take-append-drop, length-take, length-drop, append-nil, length-append}
-use Rattle.std.proofs.lemmas.List.Elements.{filter-append}
 use Rattle.std.proofs.lemmas.List.Sums.{sum_by-append}
 use Rattle.std.proofs.Math.ListN.{drop_of_length-le}
 use Rattle.std.proofs.Math.Seq.{drop-cons, take-length}
-use Rattle.definitions.specs.Calls.{SearchQuery}
 use Rattle.definitions.specs.Journal.{HistoryRecord, JournalEntry, begun, ended, ended_in}
-use Rattle.definitions.specs.Search.{stands_in, is_shown_before, hit_bytes, most_shown_bytes, FitsPage, IsPage, IsAnswer}
+use Rattle.definitions.specs.Search.{is_shown_before, hit_bytes, most_shown_bytes, FitsPage, IsPage, IsAnswer}
 use Rattle.record_model.specs.declared.begun.Started.{Started}
 use Rattle.record_model.specs.declared.ended.History.{History}
 use Rattle.record_model.specs.Seen.{history_seen, histories_seen}
 use Rattle.daemon_core.specs.declared.journal.PlainEntry.{PlainEntry}
 use Rattle.daemon_core.specs.declared.journal.PlainEntry.TheVariants as entry
 use Rattle.daemon_core.specs.Entries.{entry_seen, entries_seen}
-use Rattle.daemon_core.specs.Hits.{hit_of, hits_of, does_match, matched}
+use Rattle.daemon_core.specs.Hits.{hit_of, hits_of, ended_of}
 
--- ---- which commands match
+-- ---- the ended commands
 
 pub ended_in-append : (xs ys : List JournalEntry) → ended_in (xs ++ ys) ≡ ended_in xs ++ ended_in ys
 ended_in-append [] ys = refl
 ended_in-append (begun s ∷ xs) ys = ended_in-append xs ys
 ended_in-append (ended h ∷ xs) ys = ap (λ (l : List HistoryRecord). h ∷ l) (ended_in-append xs ys)
 
-pub matched-append : (query : SearchQuery) (xs ys : List PlainEntry) → matched query (xs ++ ys) ≡ matched query xs ++ matched query ys
-unfolding matched
-matched-append query xs ys =
-    ap (λ (l : List JournalEntry). filter (does_match query) (ended_in l)) (map-append entry_seen xs ys)
-    ∙ ap (filter (does_match query)) (ended_in-append (entries_seen xs) (entries_seen ys))
-    ∙ filter-append (does_match query) (ended_in (entries_seen xs)) (ended_in (entries_seen ys))
+ended_of-append : (xs ys : List PlainEntry) → ended_of (xs ++ ys) ≡ ended_of xs ++ ended_of ys
+unfolding ended_of
+ended_of-append xs ys = ap ended_in (map-append entry_seen xs ys) ∙ ended_in-append (entries_seen xs) (entries_seen ys)
 
-pub matched_more : (query : SearchQuery) (entries : List PlainEntry) (k : ℕ) (d : PlainEntry) → k < length entries
-    → matched query (take (k + 1) entries) ≡ matched query (take k entries) ++ matched query (slice_index_or entries k d ∷ [])
-matched_more query entries k d below =
-    ap (matched query) (take_more entries k d below) ∙ matched-append query (take k entries) (slice_index_or entries k d ∷ [])
+pub ended_nothing : [] ≡ ended_of []
+unfolding ended_of
+ended_nothing = refl
 
-pub matched_none : (query : SearchQuery) (s : Started) → matched query (entry.Started s ∷ []) ≡ []
-unfolding matched
-matched_none query s = refl
+pub ended_more : (entries : List PlainEntry) (k : ℕ) (e : PlainEntry) (now after : List HistoryRecord) → k < length entries → e ≡ slice_index_or entries k e
+    → now ≡ ended_of (take k entries) → after ≡ now ++ ended_of (e ∷ []) → after ≡ ended_of (take (k + 1) entries)
+ended_more entries k e now after below is was put =
+    put ∙ ap₂ (λ (l : List HistoryRecord) (x : PlainEntry). l ++ ended_of (x ∷ [])) was is
+    ∙ sym (ap ended_of (take_more entries k e below) ∙ ended_of-append (take k entries) (slice_index_or entries k e ∷ []))
 
-pub matched_other : (query : SearchQuery) (h : History) → does_match query (history_seen h) ≡ false → matched query (entry.Ended h ∷ []) ≡ []
-unfolding matched
-matched_other query h differs = ap (λ (b : Bool). cond b (history_seen h ∷ []) []) differs
+pub add_one : (e : PlainEntry) (h : History) (hits : List (Bor History)) (b : Bor History) (pushed : List (Bor History)) → e ≡ entry.Ended h → b.now ≡ h → pushed ≡ hits ++ b ∷ []
+    → hits_of pushed ≡ hits_of hits ++ ended_of (e ∷ [])
+unfolding ended_of
+add_one e h hits b pushed is same put =
+    ap hits_of put ∙ map-append hit_of hits (b ∷ []) ∙ ap (λ (x : History). hits_of hits ++ history_seen x ∷ []) same
+    ∙ ap (λ (x : PlainEntry). hits_of hits ++ ended_in (entries_seen (x ∷ []))) (sym is)
 
-pub matched_one : (query : SearchQuery) (h : History) → does_match query (history_seen h) ≡ true → matched query (entry.Ended h ∷ []) ≡ history_seen h ∷ []
-unfolding matched
-matched_one query h matches = ap (λ (b : Bool). cond b (history_seen h ∷ []) []) matches
-
-pub matched_nothing : (query : SearchQuery) → [] ≡ matched query []
-unfolding matched
-matched_nothing query = refl
-
--- where the query doesn't stand at a place, it stands in what is behind it or nowhere
-pub stands_in_later : (query text : List ℕ) (k : ℕ) → k < length text → starts_with eqb (drop k text) query ≡ false
-    → stands_in query (drop k text) ≡ stands_in query (drop (k + 1) text)
-stands_in_later query text k below differs =
-    let cell : drop k text ≡ slice_index_or text k 0 ∷ drop (suc k) text = drop-cons text k 0 below in
-    let next : suc k ≡ k + 1 = omega arith in
-    let here : starts_with eqb (slice_index_or text k 0 ∷ drop (suc k) text) query ≡ false = ap (λ (l : List ℕ). starts_with eqb l query) (sym cell) ∙ differs in
-    ap (stands_in query) cell ∙ ap (λ (b : Bool). b || stands_in query (drop (suc k) text)) here ∙ ap (λ (n : ℕ). stands_in query (drop n text)) next
-
-pub stands_in_here : (query text : List ℕ) (k : ℕ) → k < length text → starts_with eqb (drop k text) query ≡ true → stands_in query (drop k text) ≡ true
-stands_in_here query text k below stands =
-    let cell : drop k text ≡ slice_index_or text k 0 ∷ drop (suc k) text = drop-cons text k 0 below in
-    let here : starts_with eqb (slice_index_or text k 0 ∷ drop (suc k) text) query ≡ true = ap (λ (l : List ℕ). starts_with eqb l query) (sym cell) ∙ stands in
-    ap (stands_in query) cell ∙ ap (λ (b : Bool). b || stands_in query (drop (suc k) text)) here
-
-pub stands_in-nothing : (query : List ℕ) → stands_in query [] ≡ (length query == 0)
-stands_in-nothing [] = refl
-stands_in-nothing (b ∷ query) = grind (arith, nat_tests)
-
-pub stands_in_end : (query text : List ℕ) (k : ℕ) → length text ≤ k → stands_in query (drop k text) ≡ (length query == 0)
-stands_in_end query text k past = ap (stands_in query) (drop_of_length-le text {i = k} past) ∙ stands_in-nothing query
+pub add_none : (e : PlainEntry) (s : Started) (hits : List (Bor History)) → e ≡ entry.Started s → hits_of hits ≡ hits_of hits ++ ended_of (e ∷ [])
+unfolding ended_of
+add_none e s hits is = sym (append-nil (hits_of hits)) ∙ ap (λ (x : PlainEntry). hits_of hits ++ ended_in (entries_seen (x ∷ []))) (sym is)
 
 -- ---- the order
 
@@ -224,45 +197,19 @@ copied_count copied page same small =
 pub seen_count : (hits : List History) → length hits < 2 ^ 32 → length (histories_seen hits) < 2 ^ 32
 seen_count hits small = let same : length (histories_seen hits) ≡ length hits = length-map hits history_seen in omega arith
 
--- ---- one entry more
-
-pub add_one : (query : SearchQuery) (e : PlainEntry) (h : History) (hits : List (Bor History)) (b : Bor History) (pushed : List (Bor History)) → e ≡ entry.Ended h
-    → does_match query (history_seen h) ≡ true → b.now ≡ h → pushed ≡ hits ++ b ∷ [] → hits_of pushed ≡ hits_of hits ++ matched query (e ∷ [])
-add_one query e h hits b pushed is matches same put =
-    ap hits_of put ∙ map-append hit_of hits (b ∷ []) ∙ ap (λ (x : History). hits_of hits ++ history_seen x ∷ []) same
-    ∙ ap (λ (l : List HistoryRecord). hits_of hits ++ l) (sym (ap (λ (x : PlainEntry). matched query (x ∷ [])) is ∙ matched_one query h matches))
-
-add_nothing : (query : SearchQuery) (e : PlainEntry) (hits : List (Bor History)) → matched query (e ∷ []) ≡ [] → hits_of hits ≡ hits_of hits ++ matched query (e ∷ [])
-add_nothing query e hits none = sym (append-nil (hits_of hits)) ∙ ap (λ (l : List HistoryRecord). hits_of hits ++ l) (sym none)
-
-pub add_other : (query : SearchQuery) (e : PlainEntry) (h : History) (hits : List (Bor History)) → e ≡ entry.Ended h → does_match query (history_seen h) ≡ false
-    → hits_of hits ≡ hits_of hits ++ matched query (e ∷ [])
-add_other query e h hits is differs = add_nothing query e hits (ap (λ (x : PlainEntry). matched query (x ∷ [])) is ∙ matched_other query h differs)
-
-pub add_none : (query : SearchQuery) (e : PlainEntry) (s : Started) (hits : List (Bor History)) → e ≡ entry.Started s → hits_of hits ≡ hits_of hits ++ matched query (e ∷ [])
-add_none query e s hits is = add_nothing query e hits (ap (λ (x : PlainEntry). matched query (x ∷ [])) is ∙ matched_none query s)
-
-pub matching_more : (query : SearchQuery) (entries : List PlainEntry) (k : ℕ) (e : PlainEntry) (now after : List HistoryRecord) → k < length entries → e ≡ slice_index_or entries k e
-    → now ≡ matched query (take k entries) → after ≡ now ++ matched query (e ∷ []) → after ≡ matched query (take (k + 1) entries)
-matching_more query entries k e now after below is was put =
-    put ∙ ap₂ (λ (l : List HistoryRecord) (x : PlainEntry). l ++ matched query (x ∷ [])) was is ∙ sym (matched_more query entries k e below)
-
 -- ---- the whole
 
-pub answers_query : (query : SearchQuery) (entries : List PlainEntry) (found ordered : List (Bor History)) (shown page : List HistoryRecord)
-    → hits_of found ≡ matched query entries → IsPermutation (hits_of found) (hits_of ordered) → IsSortedBy is_shown_before (hits_of ordered)
-    → shown ≡ hits_of (drop query.offset ordered) → IsPage hit_bytes query.limit shown page → IsAnswer query (ended_in (entries_seen entries)) page
-unfolding matched
-answers_query query entries found ordered shown page are moved sorted cut fits = record {
-  in_order = hits_of ordered;
-  matching = subst (λ (l : List HistoryRecord). IsPermutation l (hits_of ordered)) are moved;
-  sorted = sorted;
-  cut = subst (λ (l : List HistoryRecord). IsPage hit_bytes query.limit l page) (cut ∙ sym (drop-map hit_of query.offset ordered)) fits;
-}
+module _ (offset limit : ℕ) (entries : List PlainEntry) (found ordered : List (Bor History)) (are : hits_of found ≡ ended_of entries) (moved : IsPermutation (hits_of found) (hits_of ordered)) (sorted : IsSortedBy is_shown_before (hits_of ordered)) where
+  answers_all : (shown page : List HistoryRecord) → shown ≡ hits_of (drop offset ordered) → IsPage hit_bytes limit shown page → IsAnswer offset limit (ended_in (entries_seen entries)) page
+  unfolding ended_of
+  answers_all shown page cut fits = record {
+    in_order = hits_of ordered;
+    all = subst (λ (l : List HistoryRecord). IsPermutation l (hits_of ordered)) are moved;
+    sorted = sorted;
+    cut = subst (λ (l : List HistoryRecord). IsPage hit_bytes limit l page) (cut ∙ sym (drop-map hit_of offset ordered)) fits;
+  }
 
-pub answers_copied : (query : SearchQuery) (entries : List PlainEntry) (found ordered shown page : List (Bor History)) (copied : List HistoryRecord)
-    → hits_of found ≡ matched query entries → IsPermutation (hits_of found) (hits_of ordered) → IsSortedBy is_shown_before (hits_of ordered)
-    → shown ≡ drop query.offset ordered → IsPage hit_bytes query.limit (hits_of shown) (hits_of page) → copied ≡ hits_of page → IsAnswer query (ended_in (entries_seen entries)) copied
-answers_copied query entries found ordered shown page copied are moved sorted cut fits same =
-    subst (λ (l : List HistoryRecord). IsAnswer query (ended_in (entries_seen entries)) l) (sym same)
-    (answers_query query entries found ordered (hits_of shown) (hits_of page) are moved sorted (ap hits_of cut) fits)
+  pub answers_copied : (shown page : List (Bor History)) (copied : List HistoryRecord) → shown ≡ drop offset ordered → IsPage hit_bytes limit (hits_of shown) (hits_of page) → copied ≡ hits_of page
+      → IsAnswer offset limit (ended_in (entries_seen entries)) copied
+  answers_copied shown page copied cut fits same =
+      subst (λ (l : List HistoryRecord). IsAnswer offset limit (ended_in (entries_seen entries)) l) (sym same) (answers_all (hits_of shown) (hits_of page) (ap hits_of cut) fits)

@@ -6,7 +6,7 @@ use Rattle.definitions.specs.Spelling.{IsBytes}
 use Rattle.at_edge.specs.Counts.{Rose}
 use Rattle.at_edge.specs.Drawing.{EntropySeen, Drew}
 use Rattle.at_edge.specs.Telling.{ClockSeen, Told}
-use Rattle.definitions.specs.Calls.{SpellsCall, start_call, end_call, search_call, SearchQuery}
+use Rattle.definitions.specs.Calls.{SpellsCall, start_call, end_call, search_call, SearchMode}
 use Rattle.definitions.specs.Ids.{made_id}
 use Rattle.definitions.specs.Journal.{StartedRecord, HistoryRecord, JournalEntry, begun, ended, begun_in, ended_in, was_begun, has_ended, finished}
 use Rattle.definitions.specs.Replies.{PlainReply, began_id, stored_index, hit_list, unknown_id, random_fault, id_taken, no_memory}
@@ -133,14 +133,14 @@ stores_not old new h reply kept is = not_stored (record { journal = kept; reply_
 
 -- ---- a Search
 
-pub search_done : (journal seen : List JournalEntry) (query : SearchQuery) (hits : List HistoryRecord) (reply : PlainReply) → seen ≡ journal → IsAnswer query (ended_in seen) hits
-    → reply ≡ answered_at journal (hit_list hits) → (payload : List ℕ) → SpellsCall (search_call query) payload → PlainStep journal payload used_nothing reply journal
-search_done journal seen query hits reply is_seen answer is payload spelled =
-    searched query hits spelled refl (subst (λ (j : List JournalEntry). IsAnswer query (ended_in j) hits) is_seen answer) (record { journal = refl; reply_is = is })
+module _ (journal : List JournalEntry) (mode : SearchMode) (past : List ℕ) (offset limit : ℕ) (reply : PlainReply) where
+  pub search_done : (seen : List JournalEntry) (hits : List HistoryRecord) → seen ≡ journal → IsAnswer offset limit (ended_in seen) hits → reply ≡ answered_at journal (hit_list hits)
+      → (payload : List ℕ) → SpellsCall (search_call mode past offset limit) payload → PlainStep journal payload used_nothing reply journal
+  search_done seen hits is_seen answer is payload spelled =
+      searched mode past offset limit hits spelled refl (subst (λ (j : List JournalEntry). IsAnswer offset limit (ended_in j) hits) is_seen answer) (record { journal = refl; reply_is = is })
 
-pub search_refused : (journal : List JournalEntry) (query : SearchQuery) (reply : PlainReply) → reply ≡ answered_at journal no_memory
-    → (payload : List ℕ) → SpellsCall (search_call query) payload → PlainStep journal payload used_nothing reply journal
-search_refused journal query reply is payload spelled = search_short query spelled refl (record { journal = refl; reply_is = is })
+  pub search_refused : reply ≡ answered_at journal no_memory → (payload : List ℕ) → SpellsCall (search_call mode past offset limit) payload → PlainStep journal payload used_nothing reply journal
+  search_refused is payload spelled = search_short mode past offset limit spelled refl (record { journal = refl; reply_is = is })
 
 pub counted_hits : (journal : List JournalEntry) (hits : List HistoryRecord) (reply : PlainReply) → reply ≡ answered_at journal (hit_list hits) → length hits < 2 ^ 32 → IsCounted reply.answer
 counted_hits journal hits reply is fits = subst (λ (r : PlainReply). IsCounted r.answer) (sym is) fits

@@ -1,7 +1,7 @@
 -- What the parts of a request ask.
 use Rattle.std.specs.Prelude.{ℕ}
 use Rattle.definitions.specs.Spelling.{TextFits}
-use Rattle.definitions.specs.Calls.{SearchQuery, PlainCall, start_call, end_call, search_call}
+use Rattle.definitions.specs.Calls.{PlainCall, start_call, end_call, search_call}
 use Rattle.definitions.specs.Journal.{StartedRecord}
 use Rattle.record_model.specs.Seen.{mode_seen}
 use Rattle.daemon_core.specs.declared.reading.StartParts.{StartParts}
@@ -16,13 +16,13 @@ start_asked p = start_call p.command.now p.cwd.now p.session.now p.hostname.now
 abbrev pub end_asked : EndParts → PlainCall
 end_asked p = end_call p.id p.duration p.exit
 
-abbrev pub query_asked : SearchParts → SearchQuery
-query_asked p = record { mode = mode_seen p.mode; text = p.text.now; offset = p.offset; limit = p.limit }
+abbrev pub search_asked : SearchParts → PlainCall
+search_asked p = search_call (mode_seen p.mode) p.past.now p.offset p.limit
 
 abbrev pub asked : Request → PlainCall
 asked (Start p) = start_asked p
 asked (End p) = end_asked p
-asked (Search p) = search_call (query_asked p)
+asked (Search p) = search_asked p
 
 pub record AreTexts (p : StartParts) : Type 0 where
   pub command : TextFits p.command.now

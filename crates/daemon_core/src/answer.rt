@@ -17,10 +17,10 @@ use std::alloc::Global;
 ///
 /// A payload is an array of a call's number and its arguments: 1 is a Start with the texts command, working directory,
 /// session and host name; 2 is an End with the id in 32 lower-case hexadecimal digits, the duration in nanoseconds and
-/// the exit status, both of 64 bits with a sign; 4 is a Search with 0 for a prefix or 1 for a substring, 0, the empty
-/// text, the text, 0, the offset below 2^32 and the limit from 1 to 1,000. A reply is an array of 0, the number of the
-/// journal's entries, and the id, the index of the ended command, or an array of the hits; or of a refusal's number,
-/// that number of entries, and its value:
+/// the exit status, both of 64 bits with a sign; 4 is a Search with 0 for a prefix or 1 for a substring, 0, any
+/// text, the empty text, 0, the offset below 2^32 and the limit from 1 to 1,000: it is for all ended commands. A reply
+/// is an array of 0, the number of the journal's entries, and the id, the index of the ended command, or an array of the
+/// hits; or of a refusal's number, that number of entries, and its value:
 ///
 /// - 2 and the id, where no command runs under the id of an End;
 /// - 5, where the ten random bytes of a Start couldn't be drawn;

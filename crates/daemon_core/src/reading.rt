@@ -1,10 +1,10 @@
 // Requests: what a payload asks, in parts that are borrowed from it.
 ghost use Rattle.std.specs.Prelude.{◌≡◌, ℕ, ℤ, pos, ◌+◌, ◌<◌, ◌≤◌, ◌^◌, [], ◌∷◌, length, IfOk};
-ghost use Rattle.definitions.specs.Calls.{a_text, an_integer, any_text, empty_text, id_digits, signed_64, from_to, start_kinds, end_kinds, plain_search_kinds, mode_number, arguments, search_call, plain_kinds};
+ghost use Rattle.definitions.specs.Calls.{a_text, an_integer, any_text, empty_text, id_digits, signed_64, from_to, start_kinds, end_kinds, plain_search_kinds, mode_number, arguments, plain_kinds};
 ghost use Rattle.definitions.specs.Ids.{id_text};
 ghost use Rattle.definitions.specs.Reading.{integer_at, array_at, item_at, argument_at, last_arguments_at, is_call_length, is_call_number};
 ghost use Rattle.record_model.specs.Seen.{mode_seen};
-ghost use Rattle.daemon_core.specs.Requests.{start_asked, end_asked, query_asked};
+ghost use Rattle.daemon_core.specs.Requests.{start_asked, end_asked, search_asked};
 ghost use Rattle.daemon_core.specs.Reads.{Gives, GivesLast, GivesCall, number_of, kinds_named};
 
 use crate::ids::id_of;
@@ -28,11 +28,12 @@ pub(crate) struct EndParts {
     pub(crate) exit: i64,
 }
 
-/// The arguments of a Search that goes through all commands and shows each hit.
+/// The arguments of a Search for all commands. It shows the same in both modes, and whatever text stands beside its
+/// filter: the two are kept because the payload spells them.
 #[derive(Drop)]
 pub(crate) struct SearchParts<'a> {
     pub(crate) mode: Mode,
-    pub(crate) text: &'a [u8],
+    pub(crate) past: &'a [u8],
     pub(crate) offset: u32,
     pub(crate) limit: u32,
 }
@@ -139,22 +140,23 @@ fn end_parts(reader: &mut Reader<'_>) -> Result<EndParts, Wrong>
     Ok(EndParts { id, duration, exit })
 }
 
-/// The arguments of a Search: its filter is 0 and has no text, and it doesn't ask for unique hits.
+/// The arguments of a Search: its filter is 0, whose text is read past, its query is empty, and it doesn't ask for
+/// unique hits.
 #[tactic(auto, unfolding(definitions::specs::Reading::arguments_at, definitions::specs::Reading::last_arguments_at))]
 fn search_parts<'a>(reader: &mut Reader<'a>) -> Result<SearchParts<'a>, Wrong>
-    ensures { GivesLast (λ p. arguments (search_call (query_asked p))) reader.old result (last_arguments_at plain_search_kinds reader.old.rest) }
+    ensures { GivesLast (λ p. arguments (search_asked p)) reader.old result (last_arguments_at plain_search_kinds reader.old.rest) }
 {
     let mode = mode(reader)?;
     zero(reader)?;
+    let past = text(reader)?;
     no_text(reader)?;
-    let text = text(reader)?;
     zero(reader)?;
     let offset = number(reader, 0, u32::MAX)?;
     let limit = number(reader, 1, 1000)?;
     reader.end()?;
     Ok(SearchParts {
         mode,
-        text,
+        past,
         offset,
         limit,
     })

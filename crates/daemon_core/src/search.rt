@@ -1,129 +1,58 @@
 // Which ended commands a search shows.
-ghost use Rattle.std.specs.Prelude.{◌≡◌, ◌+◌, ◌<◌, ◌≤◌, ◌^◌, [], ◌∷◌, ◌++◌, length, map, take, drop, ◌==◌, ◌⊎◌, IfOk, OnOk, OnErr};
+ghost use Rattle.std.specs.Prelude.{◌≡◌, ◌+◌, ◌<◌, ◌≤◌, ◌^◌, [], ◌∷◌, ◌++◌, length, take, drop, ◌⊎◌, IfOk, OnOk};
 ghost use Rattle.std.specs.Bool.{OnTrue, OnFalse};
-ghost use Rattle.std.specs.List.{list_any};
 ghost use Rattle.std.specs.List.Sorted.{IsPermutation, IsSortedBy};
 ghost use Rattle.std.specs.Ordering.{is_lt};
-ghost use Rattle.std.specs.Char.{is_ascii_uppercase, to_ascii_lowercase};
 ghost use Rattle.definitions.specs.Journal.{ended_in};
-ghost use Rattle.definitions.specs.Search.{stands_in, matches_by, is_shown_before, hit_bytes, most_shown_bytes, IsPage, IsAnswer};
-ghost use Rattle.record_model.specs.Seen.{mode_seen, history_seen, histories_seen};
+ghost use Rattle.definitions.specs.Search.{is_shown_before, hit_bytes, most_shown_bytes, IsPage, IsAnswer};
+ghost use Rattle.record_model.specs.Seen.{history_seen, histories_seen};
 ghost use Rattle.daemon_core.specs.Entries.{entries_seen};
-ghost use Rattle.daemon_core.specs.Requests.{query_asked};
-ghost use Rattle.daemon_core.specs.Hits.{hits_of, matched, stands_by};
+ghost use Rattle.daemon_core.specs.Hits.{hits_of, ended_of};
 
 use crate::journal::PlainEntry;
-use crate::reading::SearchParts;
 use plain_types::NoMemory;
-use record_model::{Histories, History, Mode};
+use record_model::{Histories, History};
 use std::alloc::Global;
 use std::cmp::Ordering;
 
 /// The most bytes that the texts of one page have together, unless it is a single hit.
 const MOST_HIT_BYTES: u64 = 4_194_304;
 
-/// The ended commands that match, the newest first, without the first `offset` of them, and as many as one reply shows.
+/// The ended commands, the newest first, without the first `offset` of them, and as many as one reply shows.
 pub(crate) fn page(
     alloc: Global,
     entries: &[PlainEntry],
-    query: &SearchParts<'_>,
+    offset: u32,
+    limit: u32,
 ) -> Result<Histories, NoMemory>
-    ensures answer { IfOk result (λ hits. IsAnswer (query_asked query.now) (ended_in (entries_seen entries.now)) (histories_seen hits)) }
+    ensures answer { IfOk result (λ hits. IsAnswer offset limit (ended_in (entries_seen entries.now)) (histories_seen hits)) }
     ensures counted { IfOk result (λ hits. length hits < 2 ^ 32) }
 {
-    let mut found = matching(alloc, entries, query)?;
+    let mut found = ended_commands(alloc, entries)?;
     put_in_order(&mut found);
-    let shown = behind(found.as_slice(), query.offset);
-    copies(alloc, fitting(shown, query.limit))
+    let shown = behind(found.as_slice(), offset);
+    copies(alloc, fitting(shown, limit))
 }
 
-/// The ended commands that match, in the order in which they ended.
-fn matching<'a>(
-    alloc: Global,
-    entries: &'a [PlainEntry],
-    query: &SearchParts<'_>,
-) -> Result<Vec<&'a History>, NoMemory>
-    ensures { IfOk result (λ found. hits_of found.items ≡ matched (query_asked query.now) entries.now) }
+/// The ended commands, in the order in which they ended.
+fn ended_commands(alloc: Global, entries: &[PlainEntry]) -> Result<Vec<&History>, NoMemory>
+    ensures { IfOk result (λ found. hits_of found.items ≡ ended_of entries.now) }
 {
     let mut found = Vec::new(alloc);
     for entry in entries {
-        add_match(alloc, &mut found, entry, query)?;
+        add_ended(&mut found, entry)?;
     }
     Ok(found)
 }
 
-/// Puts the command behind the others if it has ended and matches.
-fn add_match<'a>(
-    alloc: Global,
-    found: &mut Vec<&'a History>,
-    entry: &'a PlainEntry,
-    query: &SearchParts<'_>,
-) -> Result<(), NoMemory>
-    ensures { OnOk result (hits_of found.new.items ≡ hits_of found.old.items ++ matched (query_asked query.now) (entry.now ∷ [])) }
+/// Puts the command behind the others if it has ended.
+fn add_ended<'a>(found: &mut Vec<&'a History>, entry: &'a PlainEntry) -> Result<(), NoMemory>
+    ensures { OnOk result (hits_of found.new.items ≡ hits_of found.old.items ++ ended_of (entry.now ∷ [])) }
 {
     if let PlainEntry::Ended(history) = entry {
-        if matches(alloc, query, history.command.as_bytes())? {
-            found.push(history)?;
-        }
+        found.push(history)?;
     }
     Ok(())
-}
-
-/// Whether the command matches, with smart case.
-fn matches(alloc: Global, query: &SearchParts<'_>, command: &[u8]) -> Result<bool, NoMemory>
-    ensures { IfOk result (λ b. b ≡ matches_by (mode_seen query.now.mode) query.now.text.now command.now) }
-{
-    if has_capital(query.text) {
-        return Ok(stands(query.mode, query.text, command));
-    }
-    let folded = lower_case(alloc, command)?;
-    Ok(stands(query.mode, query.text, &folded))
-}
-
-fn has_capital(text: &[u8]) -> bool
-    ensures { result ≡ list_any is_ascii_uppercase text.now }
-{
-    text.iter().any(|byte| byte.is_ascii_uppercase())
-}
-
-/// The text with its ASCII letters in lower case.
-fn lower_case(alloc: Global, text: &[u8]) -> Result<Vec<u8>, NoMemory>
-    ensures { IfOk result (λ v. v.items ≡ map to_ascii_lowercase text.now) }
-{
-    Ok(
-        text.iter()
-            .map(|byte| byte.to_ascii_lowercase())
-            .collect(alloc)?,
-    )
-}
-
-/// Whether the query stands at the front of the text, or anywhere in it.
-fn stands(mode: Mode, query: &[u8], text: &[u8]) -> bool
-    ensures { result ≡ stands_by (mode_seen mode) query.now text.now }
-{
-    match mode {
-        Mode::Prefix => text.starts_with(query),
-        Mode::Substring => stands_anywhere(query, text),
-    }
-}
-
-fn stands_anywhere(query: &[u8], text: &[u8]) -> bool
-    ensures { result ≡ stands_in query.now text.now }
-{
-    for start in 0..text.len() {
-        if part_from(text, start).starts_with(query) {
-            return true;
-        }
-    }
-    query.is_empty()
-}
-
-#[tactic(auto, using(crate::proofs::SearchLaws::whole_rest))]
-fn part_from(text: &[u8], start: usize) -> &[u8]
-    requires { start ≤ length text.now }
-    ensures { result.now ≡ drop start text.now }
-{
-    &text[start..]
 }
 
 /// The newest first, and of two with one time the one with the lesser id.

@@ -1,10 +1,10 @@
 // What one call does to the journal, and its reply.
 ghost use Rattle.std.specs.Prelude.{◌≡◌, ℕ, List, ◌<◌, ◌^◌, ◌∷◌, [], ◌++◌, length, IfOk, OnOk, OnErr};
-ghost use Rattle.definitions.specs.Calls.{SpellsCall, search_call};
+ghost use Rattle.definitions.specs.Calls.{SpellsCall};
 ghost use Rattle.definitions.specs.Journal.{begun, finished};
 ghost use Rattle.definitions.specs.Step.{PlainStep, used_nothing, answered_at};
 ghost use Rattle.record_model.specs.Seen.{started_seen, history_seen, answer_seen, refusal_seen, reply_seen};
-ghost use Rattle.daemon_core.specs.Requests.{AreTexts, start_asked, end_asked, query_asked, started_of};
+ghost use Rattle.daemon_core.specs.Requests.{AreTexts, start_asked, end_asked, search_asked, started_of};
 ghost use Rattle.daemon_core.specs.Answering.{Starts, Ends, Stores, IsShort, IsCounted};
 
 use crate::ids::new_id;
@@ -130,13 +130,13 @@ fn ended_command(alloc: Global, started: &Started, parts: &EndParts) -> Result<H
     })
 }
 
-/// The ended commands that match.
+/// The ended commands, in order and cut to a page.
 pub(crate) fn search(alloc: Global, journal: &PlainJournal, parts: &SearchParts<'_>) -> Reply
-    ensures answered { (payload : List ℕ) → SpellsCall (search_call (query_asked parts.now)) payload → PlainStep journal.now payload used_nothing (reply_seen result) journal.now }
+    ensures answered { (payload : List ℕ) → SpellsCall (search_asked parts.now) payload → PlainStep journal.now payload used_nothing (reply_seen result) journal.now }
     ensures counted { IsCounted (reply_seen result).answer }
     ensures front { result.front ≡ length journal.now }
 {
-    match page(alloc, journal.entries(), parts) {
+    match page(alloc, journal.entries(), parts.offset, parts.limit) {
         Ok(hits) => answered(journal, Answer::Hits(hits)),
         Err(NoMemory) => refused(journal, Refusal::NoMemory),
     }

@@ -1,9 +1,9 @@
 -- A call of a plain journal is read exactly where it is spelled, and a payload that is none is found wrong exactly where it is.
-use Rattle.std.proofs.Common.{◌≡◌, ℕ, zero, suc, ◌-◌, ◌^◌, ◌<◌, ◌≤◌, ℤ, pos, negsuc, eqb, List, [], ◌∷◌, length, Option, Some, Ok, Err, refl, sym, ap, subst, ◌∙◌, arith, inl, inr, ◌⊎◌}
+use Rattle.std.proofs.Common.{◌≡◌, ℕ, zero, suc, ◌-◌, ◌^◌, ◌<◌, ◌≤◌, ℤ, pos, negsuc, eqb, List, [], ◌∷◌, length, Option, Some, Ok, refl, sym, ap, subst, arith, inl, inr, ◌⊎◌}
 use Rattle.std.proofs.lemmas.Bool.{eqb-true}
 use Rattle.definitions.specs.Spelling.{IsBytes}
 use Rattle.definitions.specs.Ids.{id_text}
-use Rattle.definitions.specs.Calls.{SearchMode, by_prefix, by_substring, SearchQuery, Argument, a_text, an_integer, Kind, any_text, empty_text, id_digits, signed_64, from_to, IsOfKind, start_kinds, end_kinds, plain_search_kinds, plain_kinds, mode_number, PlainCall, start_call, end_call, search_call, call_number, arguments, SpellsArguments, SpellsNumbered, IdFits, SpellsCall, WrongAt}
+use Rattle.definitions.specs.Calls.{SearchMode, by_prefix, by_substring, Argument, a_text, an_integer, Kind, any_text, empty_text, id_digits, signed_64, from_to, IsOfKind, start_kinds, end_kinds, plain_search_kinds, plain_kinds, mode_number, PlainCall, start_call, end_call, search_call, call_number, arguments, SpellsArguments, SpellsNumbered, IdFits, SpellsCall, WrongAt}
 use Rattle.definitions.specs.Reading.{call_at}
 use Rattle.definitions.proofs.Ids.{id_text-one}
 use Rattle.definitions.proofs.Numbered.{by_test, numbered_spelled, numbered_or_wrong, numbered_read, numbered_one, never_both}
@@ -76,11 +76,11 @@ end_list : (good more_a more_b more_c : List Argument) (a b c : Argument) (id : 
     → good ≡ arguments (end_call id duration exit)
 end_list good more_a more_b more_c a b c id duration exit e1 e2 e3 e4 a_is b_is c_is = cc
 
-search_list : (good more_a more_b more_c more_d more_f more_g more_h : List Argument) (a b c d f g h : Argument) (query : SearchQuery) (mode filter unique : ℕ)
+search_list : (good more_a more_b more_c more_d more_f more_g more_h : List Argument) (a b c d f g h : Argument) (mode : SearchMode) (past : List ℕ) (offset limit number filter unique : ℕ)
     → good ≡ a ∷ more_a → more_a ≡ b ∷ more_b → more_b ≡ c ∷ more_c → more_c ≡ d ∷ more_d → more_d ≡ f ∷ more_f → more_f ≡ g ∷ more_g → more_g ≡ h ∷ more_h → more_h ≡ []
-    → a ≡ an_integer (pos mode) → mode ≡ mode_number query.mode → b ≡ an_integer (pos filter) → filter ≡ 0 → c ≡ a_text [] → d ≡ a_text query.text → f ≡ an_integer (pos unique) → unique ≡ 0
-    → g ≡ an_integer (pos query.offset) → h ≡ an_integer (pos query.limit) → good ≡ arguments (search_call query)
-search_list good more_a more_b more_c more_d more_f more_g more_h a b c d f g h query mode filter unique e1 e2 e3 e4 e5 e6 e7 e8 a_is m b_is n c_is d_is f_is u g_is h_is = cc
+    → a ≡ an_integer (pos number) → number ≡ mode_number mode → b ≡ an_integer (pos filter) → filter ≡ 0 → c ≡ a_text past → d ≡ a_text [] → f ≡ an_integer (pos unique) → unique ≡ 0
+    → g ≡ an_integer (pos offset) → h ≡ an_integer (pos limit) → good ≡ arguments (search_call mode past offset limit)
+search_list good more_a more_b more_c more_d more_f more_g more_h a b c d f g h mode past offset limit number filter unique e1 e2 e3 e4 e5 e6 e7 e8 a_is m b_is n c_is d_is f_is u g_is h_is = cc
 
 start_is : (good : List Argument) (spelled : List ℕ) → SpellsArguments start_kinds good spelled → (call : PlainCall) × IsCallOf 1 good call
 start_is good spelled s =
@@ -108,10 +108,10 @@ end_is good spelled s =
 
 search_is : (good : List Argument) (spelled : List ℕ) → SpellsArguments plain_search_kinds good spelled → (call : PlainCall) × IsCallOf 4 good call
 search_is good spelled s =
-    let a = first_argument (from_to 0 1) (from_to 0 0 ∷ empty_text ∷ any_text ∷ from_to 0 0 ∷ from_to 0 (2 ^ 32 - 1) ∷ from_to 1 1000 ∷ []) good spelled s in
-    let b = first_argument (from_to 0 0) (empty_text ∷ any_text ∷ from_to 0 0 ∷ from_to 0 (2 ^ 32 - 1) ∷ from_to 1 1000 ∷ []) a.1 a.4.0 a.4.1 in
-    let c = first_argument empty_text (any_text ∷ from_to 0 0 ∷ from_to 0 (2 ^ 32 - 1) ∷ from_to 1 1000 ∷ []) b.1 b.4.0 b.4.1 in
-    let d = first_argument any_text (from_to 0 0 ∷ from_to 0 (2 ^ 32 - 1) ∷ from_to 1 1000 ∷ []) c.1 c.4.0 c.4.1 in
+    let a = first_argument (from_to 0 1) (from_to 0 0 ∷ any_text ∷ empty_text ∷ from_to 0 0 ∷ from_to 0 (2 ^ 32 - 1) ∷ from_to 1 1000 ∷ []) good spelled s in
+    let b = first_argument (from_to 0 0) (any_text ∷ empty_text ∷ from_to 0 0 ∷ from_to 0 (2 ^ 32 - 1) ∷ from_to 1 1000 ∷ []) a.1 a.4.0 a.4.1 in
+    let c = first_argument any_text (empty_text ∷ from_to 0 0 ∷ from_to 0 (2 ^ 32 - 1) ∷ from_to 1 1000 ∷ []) b.1 b.4.0 b.4.1 in
+    let d = first_argument empty_text (from_to 0 0 ∷ from_to 0 (2 ^ 32 - 1) ∷ from_to 1 1000 ∷ []) c.1 c.4.0 c.4.1 in
     let f = first_argument (from_to 0 0) (from_to 0 (2 ^ 32 - 1) ∷ from_to 1 1000 ∷ []) d.1 d.4.0 d.4.1 in
     let g = first_argument (from_to 0 (2 ^ 32 - 1)) (from_to 1 1000 ∷ []) f.1 f.4.0 f.4.1 in
     let h = first_argument (from_to 1 1000) [] g.1 g.4.0 g.4.1 in
@@ -119,18 +119,18 @@ search_is good spelled s =
     let mode_is = a_number_is 0 1 a.0 a.3 in
     let mode = a_mode_is mode_is.0 mode_is.2 in
     let filter = a_number_is 0 0 b.0 b.3 in
-    let text = a_text_is d.0 d.3 in
+    let past = a_text_is c.0 c.3 in
     let unique = a_number_is 0 0 f.0 f.3 in
     let offset = a_number_is 0 (2 ^ 32 - 1) g.0 g.3 in
     let limit = a_number_is 1 1000 h.0 h.3 in
     let no_filter : filter.0 ≡ 0 = let most = filter.2 in omega arith in
     let not_unique : unique.0 ≡ 0 = let most = unique.2 in omega arith in (
-      search_call (record { mode = mode.0; text = text.0; offset = offset.0; limit = limit.0 }),
+      search_call mode.0 past.0 offset.0 limit.0,
       (
         tt,
         refl,
-        search_list good a.1 b.1 c.1 d.1 f.1 g.1 h.1 a.0 b.0 c.0 d.0 f.0 g.0 h.0 (record { mode = mode.0; text = text.0; offset = offset.0; limit = limit.0 }) mode_is.0 filter.0 unique.0
-            a.2 b.2 c.2 d.2 f.2 g.2 h.2 nothing mode_is.3 mode.1 filter.3 no_filter (empty_text_is c.0 c.3) text.1 unique.3 not_unique offset.3 limit.3,
+        search_list good a.1 b.1 c.1 d.1 f.1 g.1 h.1 a.0 b.0 c.0 d.0 f.0 g.0 h.0 mode.0 past.0 offset.0 limit.0 mode_is.0 filter.0 unique.0
+            a.2 b.2 c.2 d.2 f.2 g.2 h.2 nothing mode_is.3 mode.1 filter.3 no_filter past.1 (empty_text_is d.0 d.3) unique.3 not_unique offset.3 limit.3,
       ),
     )
 
@@ -164,28 +164,22 @@ modes_apart by_prefix by_substring e = absurd (omega arith)
 modes_apart by_substring by_prefix e = absurd (omega arith)
 modes_apart by_substring by_substring e = refl
 
-queries : (m m' : SearchMode) (t t' : List ℕ) (o o' l l' : ℕ) → m ≡ m' → t ≡ t' → o ≡ o' → l ≡ l' → search_call (record { mode = m; text = t; offset = o; limit = l }) ≡ search_call (record { mode = m'; text = t'; offset = o'; limit = l' })
-queries m m' t t' o o' l l' m_same t_same o_same l_same = rw (m_same, t_same, o_same, l_same) refl
-
 calls_apart : (a b : PlainCall) → IdFits a → IdFits b → call_number a ≡ call_number b → arguments a ≡ arguments b → a ≡ b
 calls_apart (start_call a b c d) (start_call a' b' c' d') fits fits' n e = cc
 calls_apart (start_call a b c d) (end_call id duration exit) fits fits' n e = absurd (omega arith)
-calls_apart (start_call a b c d) (search_call query) fits fits' n e = absurd (omega arith)
+calls_apart (start_call a b c d) (search_call mode past offset limit) fits fits' n e = absurd (omega arith)
 calls_apart (end_call id duration exit) (start_call a b c d) fits fits' n e = absurd (omega arith)
 calls_apart (end_call id duration exit) (end_call id' duration' exit') fits fits' n e =
     let text : id_text id ≡ id_text id' = cc in
     let same : id ≡ id' = id_text-one id id' fits fits' text in
     cc
-calls_apart (end_call id duration exit) (search_call query) fits fits' n e = absurd (omega arith)
-calls_apart (search_call query) (start_call a b c d) fits fits' n e = absurd (omega arith)
-calls_apart (search_call query) (end_call id duration exit) fits fits' n e = absurd (omega arith)
-calls_apart (search_call query) (search_call other) fits fits' n e =
-    let mode : mode_number query.mode ≡ mode_number other.mode = cc in
-    let same : query.mode ≡ other.mode = modes_apart query.mode other.mode mode in
-    let text : query.text ≡ other.text = cc in
-    let offset : query.offset ≡ other.offset = cc in
-    let limit : query.limit ≡ other.limit = cc in
-    queries query.mode other.mode query.text other.text query.offset other.offset query.limit other.limit same text offset limit
+calls_apart (end_call id duration exit) (search_call mode past offset limit) fits fits' n e = absurd (omega arith)
+calls_apart (search_call mode past offset limit) (start_call a b c d) fits fits' n e = absurd (omega arith)
+calls_apart (search_call mode past offset limit) (end_call id duration exit) fits fits' n e = absurd (omega arith)
+calls_apart (search_call mode past offset limit) (search_call mode' past' offset' limit') fits fits' n e =
+    let number : mode_number mode ≡ mode_number mode' = cc in
+    let same : mode ≡ mode' = modes_apart mode mode' number in
+    cc
 
 pub one_call : (payload : List ℕ) (a b : PlainCall) → SpellsCall a payload → SpellsCall b payload → a ≡ b
 one_call payload a b s t =

@@ -19,12 +19,12 @@ use Rattle.definitions.proofs.Outcomes.{Step-one}
 abbrev pub readings_of : PlainCall → ℕ
 readings_of (start_call command cwd session hostname) = 1
 readings_of (end_call id duration exit) = 1
-readings_of (search_call query) = 0
+readings_of (search_call mode past offset limit) = 0
 
 abbrev pub draws_of : PlainCall → Bool → ℕ
 draws_of (start_call command cwd session hostname) failed = cond failed 0 10
 draws_of (end_call id duration exit) failed = 0
-draws_of (search_call query) failed = 0
+draws_of (search_call mode past offset limit) failed = 0
 
 pub data Uses (payload : List ℕ) (used : Used) (answer : PlainAnswer) : Type 0 where
   uses_nothing : (place : ℕ) → WrongAt plain_kinds payload place → length used.readings ≡ 0 → length used.drawn ≡ 0 → Uses payload used answer
@@ -46,8 +46,8 @@ Step-uses old payload used reply new (end_unbegun _ _ _ now s u _ r) = uses_at p
 Step-uses old payload used reply new (end_again _ _ _ now s u _ r) = uses_at payload used reply _ _ _ _ s u r.reply_is refl refl refl
 Step-uses old payload used reply new (end_done _ _ _ now t s u _ _ _ r) = uses_at payload used reply _ _ _ _ s u r.reply_is refl refl refl
 Step-uses old payload used reply new (end_short _ _ _ now s u _ _ r) = uses_at payload used reply _ _ _ _ s u r.reply_is refl refl refl
-Step-uses old payload used reply new (searched _ _ s u _ r) = uses_at payload used reply _ _ _ _ s u r.reply_is refl refl refl
-Step-uses old payload used reply new (search_short _ s u r) = uses_at payload used reply _ _ _ _ s u r.reply_is refl refl refl
+Step-uses old payload used reply new (searched _ _ _ _ _ s u _ r) = uses_at payload used reply _ _ _ _ s u r.reply_is refl refl refl
+Step-uses old payload used reply new (search_short _ _ _ _ s u r) = uses_at payload used reply _ _ _ _ s u r.reply_is refl refl refl
 
 same_uses : (payload : List ℕ) (a b : Used) (answer : PlainAnswer) → IsBytes payload → Uses payload a answer → Uses payload b answer → (length a.readings ≡ length b.readings) × (length a.drawn ≡ length b.drawn)
 same_uses payload a b answer are (uses_nothing place w r d) (uses_nothing place' w' r' d') = (r ∙ sym r', d ∙ sym d')

@@ -13,13 +13,13 @@ use Rattle.std.proofs.lemmas.Str.{IsUtf8-nil, IsUtf8-from_is_utf8}
 use Rattle.definitions.specs.Spelling.{IsBytes, positive_fixint, negative_fixint, uint_8, uint_16, uint_32, uint_64, int_8, int_16, int_32, int_64, integer_bytes, SpellsInteger, fixstr, str_8, str_16, str_32, SpellsText, fixarray, array_16, array_32}
 use Rattle.definitions.specs.Frames.{most_payload_bytes, frame, frames, CutFrame, LongFrame}
 use Rattle.definitions.specs.Ids.{id_text, made_id}
-use Rattle.definitions.specs.Calls.{Argument, SearchQuery, PlainCall, start_call, end_call, search_call, mode_number, call_number, arguments, a_text, any_text, start_kinds, end_kinds, plain_search_kinds, SpellsArguments, SpellsCall, plain_kinds, WrongAt}
+use Rattle.definitions.specs.Calls.{SearchMode, by_prefix, by_substring, Argument, PlainCall, start_call, end_call, search_call, mode_number, call_number, arguments, a_text, any_text, start_kinds, end_kinds, plain_search_kinds, SpellsArguments, SpellsCall, plain_kinds, WrongAt}
 use Rattle.definitions.specs.Reading.{array_at, integer_at, text_head_at, text_at, argument_at, arguments_at, last_arguments_at, call_at}
 use Rattle.definitions.specs.Journal.{StartedRecord, HistoryRecord, JournalEntry, begun, ended, ended_in, was_begun, has_ended, finished, SoundJournal}
 use Rattle.definitions.specs.Search.{is_shown_before, hit_bytes, IsPage, FitsPage, IsAnswer}
 use Rattle.definitions.specs.Replies.{PlainAnswer, began_id, stored_index, hit_list, unknown_id, random_fault, id_taken, no_memory, bad_request, PlainReply, plain_reply_bytes}
 use Rattle.definitions.specs.Step.{Used, used_nothing, read_and_drew, read_clock, PlainRefuses, Answers, PlainStep, unread, start_failed, start_taken, start_done, start_short, end_unbegun, end_again, end_done, end_short, searched, search_short}
-use Rattle.definitions.specs.Examples.{WorkedIntegers, WorkedTexts, WorkedArrays, WorkedNoItems, WorkedFrames, WorkedStreams, WorkedIds, first_time, first_id, first_digits, ten_bytes, ls, start_ls, start_payload, end_ls, end_payload, all_hits, all_payload, third_hit, last_hits, WorkedCalls, WorkedFaults, ls_ended, pwd, pwd_ended, one_running, WorkedJournals, hit_at, WorkedMatches, WorkedSearches, WorkedReplies, at_front, used_by_start, used_by_end, nothing_used, three_replies, WorkedSteps, WorkedWants, WorkedRuns}
+use Rattle.definitions.specs.Examples.{WorkedIntegers, WorkedTexts, WorkedArrays, WorkedNoItems, WorkedFrames, WorkedStreams, WorkedIds, first_time, first_id, first_digits, ten_bytes, ls, start_ls, start_payload, end_ls, end_payload, all_hits, all_payload, third_hit, last_hits, WorkedCalls, WorkedFaults, ls_ended, pwd, pwd_ended, one_running, WorkedJournals, hit_at, three_ended, WorkedMatches, WorkedSearches, WorkedReplies, at_front, used_by_start, used_by_end, nothing_used, three_replies, WorkedSteps, WorkedWants, WorkedRuns}
 use Rattle.definitions.proofs.Search.{whole_page}
 use Rattle.definitions.proofs.Among.{Among-from_place}
 use Rattle.definitions.proofs.Calls.{call_read, one_call, call_never_wrong}
@@ -212,9 +212,9 @@ host_is_utf8 : IsUtf8 (codes "h:u")
 unfolding is_utf8 chars lib.Utf8.encode
 host_is_utf8 = IsUtf8-from_is_utf8 (codes "h:u") refl
 
-l_is_utf8 : IsUtf8 (codes "l")
+x_is_utf8 : IsUtf8 (codes "x")
 unfolding is_utf8 chars lib.Utf8.encode
-l_is_utf8 = IsUtf8-from_is_utf8 (codes "l") refl
+x_is_utf8 = IsUtf8-from_is_utf8 (codes "x") refl
 
 digits_are_utf8 : IsUtf8 first_digits
 unfolding is_utf8 chars lib.Utf8.encode
@@ -289,50 +289,43 @@ end_spelled_so duration exit a b d e s t = record { id_fits = omega arith; numbe
   are = refl;
 } }
 
--- a Search: its mode and its query's text, offset and limit
-search_spelled_so : (query : SearchQuery) (text offset limit : List ℕ) → mode_number query.mode ≤ 1 → query.offset ≤ 4294967295 → 1 ≤ query.limit → query.limit ≤ 1000 → SpellsText query.text text → SpellsInteger (pos query.offset) offset → SpellsInteger (pos query.limit) limit
-    → SpellsCall (search_call query) (0x98 ∷ 0x04 ∷ (integer_bytes positive_fixint (pos (mode_number query.mode)) ++ (0x00 ∷ 0xa0 ∷ (text ++ (0x00 ∷ (offset ++ (limit ++ [])))))))
-search_spelled_so query text offset limit mode most least above t o l = record { id_fits = tt; numbered = record {
+-- a Search: its mode, the text that is read past, its offset and limit
+search_spelled_so : (mode : SearchMode) (past : List ℕ) (first most : ℕ) (text offset limit : List ℕ) → mode_number mode ≤ 1 → first ≤ 4294967295 → 1 ≤ most → most ≤ 1000 → SpellsText past text → SpellsInteger (pos first) offset → SpellsInteger (pos most) limit
+    → SpellsCall (search_call mode past first most) (0x98 ∷ 0x04 ∷ (integer_bytes positive_fixint (pos (mode_number mode)) ++ (0x00 ∷ (text ++ (0xa0 ∷ 0x00 ∷ (offset ++ (limit ++ [])))))))
+search_spelled_so mode past first most text offset limit mode_fits far least above t o l = record { id_fits = tt; numbered = record {
   header = 0x98 ∷ [];
   number = 0x04 ∷ [];
-  rest = integer_bytes positive_fixint (pos (mode_number query.mode)) ++ (0x00 ∷ 0xa0 ∷ (text ++ (0x00 ∷ (offset ++ (limit ++ [])))));
+  rest = integer_bytes positive_fixint (pos (mode_number mode)) ++ (0x00 ∷ (text ++ (0xa0 ∷ 0x00 ∷ (offset ++ (limit ++ [])))));
   all_kinds = plain_search_kinds;
   kinds_are = refl;
   is_header = (fixarray, omega arith, refl);
   is_number = small_number 4 (omega arith);
   are_arguments = (
-    integer_bytes positive_fixint (pos (mode_number query.mode)),
-    0x00 ∷ 0xa0 ∷ (text ++ (0x00 ∷ (offset ++ (limit ++ [])))),
-    (omega arith, mode),
-    small_number (mode_number query.mode) (omega (arith, mode)),
+    integer_bytes positive_fixint (pos (mode_number mode)),
+    0x00 ∷ (text ++ (0xa0 ∷ 0x00 ∷ (offset ++ (limit ++ [])))),
+    (omega arith, mode_fits),
+    small_number (mode_number mode) (omega (arith, mode_fits)),
     (
       0x00 ∷ [],
-      0xa0 ∷ (text ++ (0x00 ∷ (offset ++ (limit ++ [])))),
+      text ++ (0xa0 ∷ 0x00 ∷ (offset ++ (limit ++ []))),
       (omega arith, omega arith),
       small_number 0 (omega arith),
       (
-        0xa0 ∷ [],
-        text ++ (0x00 ∷ (offset ++ (limit ++ []))),
-        refl,
-        short_text [] IsUtf8-nil (omega arith),
+        text,
+        0xa0 ∷ 0x00 ∷ (offset ++ (limit ++ [])),
+        tt,
+        t,
         (
-          text,
+          0xa0 ∷ [],
           0x00 ∷ (offset ++ (limit ++ [])),
-          tt,
-          t,
+          refl,
+          short_text [] IsUtf8-nil (omega arith),
           (
             0x00 ∷ [],
             offset ++ (limit ++ []),
             (omega arith, omega arith),
             small_number 0 (omega arith),
-            (
-              offset,
-              limit ++ [],
-              (omega arith, most),
-              o,
-              (limit, [], (least, above), l, refl, refl),
-              refl,
-            ),
+            (offset, limit ++ [], (omega arith, far), o, (limit, [], (least, above), l, refl, refl), refl),
             refl,
           ),
           refl,
@@ -349,8 +342,8 @@ search_spelled_so query text offset limit mode most least above t o l = record {
 end_spelled : SpellsCall end_ls end_payload
 end_spelled = end_spelled_so (pos 1000) (pos 0) (0xcd ∷ 0x03 ∷ 0xe8 ∷ []) (0x00 ∷ []) (omega arith) (omega arith) (uint_16, omega arith, refl) (positive_fixint, omega arith, refl)
 
-all_spelled : SpellsCall (search_call all_hits) all_payload
-all_spelled = search_spelled_so all_hits (0xa0 ∷ []) (0x00 ∷ []) (0x0a ∷ []) (omega arith) (omega arith) (omega arith) (omega arith) (short_text [] IsUtf8-nil (omega arith)) (small_number 0 (omega arith)) (small_number 10 (omega arith))
+all_spelled : SpellsCall all_hits all_payload
+all_spelled = search_spelled_so by_prefix [] 0 10 (0xa0 ∷ []) (0x00 ∷ []) (0x0a ∷ []) (omega arith) (omega arith) (omega arith) (omega arith) (short_text [] IsUtf8-nil (omega arith)) (small_number 0 (omega arith)) (small_number 10 (omega arith))
 
 abbrev read_as : PlainCall → Result (ℤ × List Argument) ℕ
 read_as call = Ok (pos (call_number call), arguments call)
@@ -370,8 +363,8 @@ calls = record {
   end = end_spelled;
   end_far = end_spelled_so (negsuc 9223372036854775807) (pos 9223372036854775807) (0xd3 ∷ 0x80 ∷ 0x00 ∷ 0x00 ∷ 0x00 ∷ 0x00 ∷ 0x00 ∷ 0x00 ∷ 0x00 ∷ []) (0xcf ∷ 0x7f ∷ 0xff ∷ 0xff ∷ 0xff ∷ 0xff ∷ 0xff ∷ 0xff ∷ 0xff ∷ []) (omega arith) (omega arith) (int_64, omega arith, refl) (uint_64, omega arith, refl);
   search = all_spelled;
-  search_third = search_spelled_so third_hit (0xa1 ∷ 0x6c ∷ []) (0x02 ∷ []) (0x01 ∷ []) (omega arith) (omega arith) (omega arith) (omega arith) (short_text (codes "l") l_is_utf8 (omega arith)) (small_number 2 (omega arith)) (small_number 1 (omega arith));
-  search_last = search_spelled_so last_hits (0xa0 ∷ []) (0xce ∷ 0xff ∷ 0xff ∷ 0xff ∷ 0xff ∷ []) (0xcd ∷ 0x03 ∷ 0xe8 ∷ []) (omega arith) (omega arith) (omega arith) (omega arith) (short_text [] IsUtf8-nil (omega arith)) (uint_32, omega arith, refl) (uint_16, omega arith, refl);
+  search_third = search_spelled_so by_substring (codes "x") 2 1 (0xa1 ∷ 0x78 ∷ []) (0x02 ∷ []) (0x01 ∷ []) (omega arith) (omega arith) (omega arith) (omega arith) (short_text (codes "x") x_is_utf8 (omega arith)) (small_number 2 (omega arith)) (small_number 1 (omega arith));
+  search_last = search_spelled_so by_prefix [] 4294967295 1000 (0xa0 ∷ []) (0xce ∷ 0xff ∷ 0xff ∷ 0xff ∷ 0xff ∷ []) (0xcd ∷ 0x03 ∷ 0xe8 ∷ []) (omega arith) (omega arith) (omega arith) (omega arith) (short_text [] IsUtf8-nil (omega arith)) (uint_32, omega arith, refl) (uint_16, omega arith, refl);
   id_above = λ payload s. let h = s.id_fits in omega (arith, h);
 }
 
@@ -395,7 +388,8 @@ faults = record {
   status_text = wrong_there (0x94 ∷ 0x02 ∷ 0xd9 ∷ 0x20 ∷ (first_digits ++ 0x00 ∷ 0xa0 ∷ [])) 37 refl (omega arith) refl;
   mode_2 = wrong_there (0x98 ∷ 0x04 ∷ 0x02 ∷ []) 2 refl (omega arith) refl;
   filter_1 = wrong_there (0x98 ∷ 0x04 ∷ 0x00 ∷ 0x01 ∷ []) 3 refl (omega arith) refl;
-  filter_text = wrong_there (0x98 ∷ 0x04 ∷ 0x00 ∷ 0x00 ∷ 0xa1 ∷ 0x78 ∷ []) 4 refl (omega arith) refl;
+  filter_number = wrong_there (0x98 ∷ 0x04 ∷ 0x00 ∷ 0x00 ∷ 0x05 ∷ []) 4 refl (omega arith) refl;
+  query = wrong_there (0x98 ∷ 0x04 ∷ 0x00 ∷ 0x00 ∷ 0xa0 ∷ 0xa2 ∷ 0x6c ∷ 0x73 ∷ 0x00 ∷ 0x00 ∷ 0x0a ∷ []) 5 refl (omega arith) refl;
   unique = wrong_there (0x98 ∷ 0x04 ∷ 0x00 ∷ 0x00 ∷ 0xa0 ∷ 0xa0 ∷ 0x01 ∷ []) 6 refl (omega arith) refl;
   offset_above = wrong_there (0x98 ∷ 0x04 ∷ 0x00 ∷ 0x00 ∷ 0xa0 ∷ 0xa0 ∷ 0x00 ∷ 0xcf ∷ 0x00 ∷ 0x00 ∷ 0x00 ∷ 0x01 ∷ 0x00 ∷ 0x00 ∷ 0x00 ∷ 0x00 ∷ 0x0a ∷ []) 7 refl (omega arith) refl;
   offset_below = wrong_there (0x98 ∷ 0x04 ∷ 0x00 ∷ 0x00 ∷ 0xa0 ∷ 0xa0 ∷ 0x00 ∷ 0xff ∷ 0x0a ∷ []) 7 refl (omega arith) refl;
@@ -485,14 +479,11 @@ matches = record {
   bytes = refl;
 }
 
--- the three with "ls" in the order in which they ended, and newest first
-abbrev ls_ones : List HistoryRecord
-ls_ones = hit_at 4 10 (codes "ls") ∷ hit_at 2 30 (codes "LS -l") ∷ hit_at 1 30 (codes "ls -a") ∷ []
-
+-- the three, newest first
 abbrev newest_first : List HistoryRecord
 newest_first = hit_at 1 30 (codes "ls -a") ∷ hit_at 2 30 (codes "LS -l") ∷ hit_at 4 10 (codes "ls") ∷ []
 
-turned : IsPermutation ls_ones newest_first
+turned : IsPermutation three_ended newest_first
 turned = record { moves = (0, 2) ∷ []; below = (omega arith, omega arith, tt); is = refl }
 
 newest_sorted : IsSortedBy is_shown_before newest_first
@@ -523,10 +514,10 @@ searches = record {
     ];
   };
   none_allowed = λ fits. let h = fits.0 in omega (arith, h);
-  answer = record { in_order = newest_first; matching = turned; sorted = newest_sorted; cut = whole_page hit_bytes 10 newest_first (omega arith, inr (omega arith)) };
-  without_first = record { in_order = newest_first; matching = turned; sorted = newest_sorted; cut = whole_page hit_bytes 10 (hit_at 2 30 (codes "LS -l") ∷ hit_at 4 10 (codes "ls") ∷ []) (omega arith, inr (omega arith)) };
-  first_alone = record { in_order = newest_first; matching = turned; sorted = newest_sorted; cut = record { rest = hit_at 2 30 (codes "LS -l") ∷ hit_at 4 10 (codes "ls") ∷ []; front = refl; fits = (omega arith, inl (omega arith)); most = λ next others e more. let many = more.0 in omega (arith, many) } };
-  behind_the_last = record { in_order = newest_first; matching = turned; sorted = newest_sorted; cut = whole_page hit_bytes 10 [] (omega arith, inl (omega arith)) };
+  answer = record { in_order = newest_first; all = turned; sorted = newest_sorted; cut = whole_page hit_bytes 10 newest_first (omega arith, inr (omega arith)) };
+  without_first = record { in_order = newest_first; all = turned; sorted = newest_sorted; cut = whole_page hit_bytes 10 (hit_at 2 30 (codes "LS -l") ∷ hit_at 4 10 (codes "ls") ∷ []) (omega arith, inr (omega arith)) };
+  first_alone = record { in_order = newest_first; all = turned; sorted = newest_sorted; cut = record { rest = hit_at 2 30 (codes "LS -l") ∷ hit_at 4 10 (codes "ls") ∷ []; front = refl; fits = (omega arith, inl (omega arith)); most = λ next others e more. let many = more.0 in omega (arith, many) } };
+  behind_the_last = record { in_order = newest_first; all = turned; sorted = newest_sorted; cut = whole_page hit_bytes 10 [] (omega arith, inl (omega arith)) };
 }
 
 -- ---- replies
@@ -550,8 +541,8 @@ replies_worked = record {
 
 -- ---- steps and runs
 
-shows_ls : IsAnswer all_hits (ls_ended ∷ []) (ls_ended ∷ [])
-shows_ls = record { in_order = ls_ended ∷ []; matching = IsPermutation-refl (ls_ended ∷ []); sorted = λ k d low high. absurd (omega arith); cut = whole_page hit_bytes 10 (ls_ended ∷ []) (omega arith, inl (omega arith)) }
+shows_ls : IsAnswer 0 10 (ls_ended ∷ []) (ls_ended ∷ [])
+shows_ls = record { in_order = ls_ended ∷ []; all = IsPermutation-refl (ls_ended ∷ []); sorted = λ k d low high. absurd (omega arith); cut = whole_page hit_bytes 10 (ls_ended ∷ []) (omega arith, inl (omega arith)) }
 
 begins : PlainStep [] start_payload used_by_start (at_front 1 (began_id first_id)) (begun ls ∷ [])
 begins = start_done (codes "ls") (codes "/") (codes "s1") (codes "h:u") first_time ten_bytes start_spelled refl refl refl (record { journal = refl; reply_is = refl })
@@ -560,7 +551,7 @@ ends : PlainStep (begun ls ∷ []) end_payload used_by_end (at_front 2 (stored_i
 ends = end_done first_id (pos 1000) (pos 0) 5 ls end_spelled refl (0, omega arith, refl) refl refl (record { journal = refl; reply_is = refl })
 
 shows : (journal : List JournalEntry) → ended_in journal ≡ ls_ended ∷ [] → PlainStep journal all_payload nothing_used (at_front (length journal) (hit_list (ls_ended ∷ []))) journal
-shows journal one = searched all_hits (ls_ended ∷ []) all_spelled refl (subst (λ (hs : List HistoryRecord). IsAnswer all_hits hs (ls_ended ∷ [])) (sym one) shows_ls) (record { journal = refl; reply_is = refl })
+shows journal one = searched by_prefix [] 0 10 (ls_ended ∷ []) all_spelled refl (subst (λ (hs : List HistoryRecord). IsAnswer 0 10 hs (ls_ended ∷ [])) (sym one) shows_ls) (record { journal = refl; reply_is = refl })
 
 great_number : WrongAt plain_kinds (0x91 ∷ 0x63 ∷ []) 1
 great_number = faults.great_number
@@ -577,7 +568,7 @@ steps = record {
   ends_again = end_again first_id (pos 1000) (pos 0) 5 end_spelled refl refl (record { journal = refl; reply_is = refl });
   ends_without_memory = end_short first_id (pos 1000) (pos 0) 5 end_spelled refl refl refl (record { journal = refl; reply_is = refl });
   searches = shows one_running refl;
-  searches_without_memory = search_short all_hits all_spelled refl (record { journal = refl; reply_is = refl });
+  searches_without_memory = search_short by_prefix [] 0 10 all_spelled refl (record { journal = refl; reply_is = refl });
   no_call = unread 1 great_number refl (record { journal = refl; reply_is = refl });
 }
 
@@ -585,7 +576,7 @@ steps = record {
 data Short (old : List JournalEntry) (payload : List ℕ) (used : Used) (new : List JournalEntry) : Type 0 where
   of_start : (command cwd session hostname : List ℕ) (now : ℕ) (drawn : List ℕ) → SpellsCall (start_call command cwd session hostname) payload → length drawn ≡ 10 → used ≡ read_and_drew now drawn → was_begun (made_id now drawn) old ≡ false → new ≡ old → Short old payload used new
   of_end : (id : ℕ) (duration exit : ℤ) (now : ℕ) → SpellsCall (end_call id duration exit) payload → used ≡ read_clock now → was_begun id old ≡ true → has_ended id old ≡ false → new ≡ old → Short old payload used new
-  of_search : (query : SearchQuery) → SpellsCall (search_call query) payload → used ≡ used_nothing → new ≡ old → Short old payload used new
+  of_search : (mode : SearchMode) (past : List ℕ) (offset limit : ℕ) → SpellsCall (search_call mode past offset limit) payload → used ≡ used_nothing → new ≡ old → Short old payload used new
 
 module _ (old : List JournalEntry) (reply : PlainReply) (new : List JournalEntry) (short : reply.answer ≡ no_memory) where
   other_refused : (answer : PlainAnswer) → PlainRefuses old new reply answer → answer ≡ no_memory
@@ -604,14 +595,14 @@ module _ (old : List JournalEntry) (reply : PlainReply) (new : List JournalEntry
   short_of payload used (end_again id duration exit now spelled u over r) = let e = other_refused (unknown_id id) r in absurd cc
   short_of payload used (end_done id duration exit now s spelled u c same runs a) = let e = other_answered _ (stored_index (length (ended_in old))) a in absurd cc
   short_of payload used (end_short id duration exit now spelled u was over r) = of_end id duration exit now spelled u was over r.journal
-  short_of payload used (searched query hits spelled u found a) = let e = other_answered _ (hit_list hits) a in absurd cc
-  short_of payload used (search_short query spelled u r) = of_search query spelled u r.journal
+  short_of payload used (searched mode past offset limit hits spelled u found a) = let e = other_answered _ (hit_list hits) a in absurd cc
+  short_of payload used (search_short mode past offset limit spelled u r) = of_search mode past offset limit spelled u r.journal
 
 -- the Start is short of memory only with ten bytes drawn, and where their id is free
 start_only : (old new : List JournalEntry) (used : Used) → Short old start_payload used new → (now : ℕ) × (drawn : List ℕ) × (length drawn ≡ 10) × (used ≡ read_and_drew now drawn) × (was_begun (made_id now drawn) old ≡ false)
 start_only old new used (of_start c d s h now drawn spelled ten u free stays) = (now, drawn, ten, u, free)
 start_only old new used (of_end id duration exit now spelled u was over stays) = let e = one_call start_payload start_ls (end_call id duration exit) start_spelled spelled in absurd cc
-start_only old new used (of_search query spelled u stays) = let e = one_call start_payload start_ls (search_call query) start_spelled spelled in absurd cc
+start_only old new used (of_search mode past offset limit spelled u stays) = let e = one_call start_payload start_ls (search_call mode past offset limit) start_spelled spelled in absurd cc
 
 end_only : (old new : List JournalEntry) (used : Used) → Short old end_payload used new → (now : ℕ) × (used ≡ read_clock now) × (was_begun first_id old ≡ true) × (has_ended first_id old ≡ false)
 end_only old new used (of_start c d s h now drawn spelled ten u free stays) = let e = one_call end_payload end_ls (start_call c d s h) end_spelled spelled in absurd cc
@@ -619,12 +610,12 @@ end_only old new used (of_end id duration exit now spelled u was over stays) =
     let e = one_call end_payload end_ls (end_call id duration exit) end_spelled spelled in
     let same : id ≡ first_id = cc in
     (now, u, subst (λ (i : ℕ). was_begun i old ≡ true) same was, subst (λ (i : ℕ). has_ended i old ≡ false) same over)
-end_only old new used (of_search query spelled u stays) = let e = one_call end_payload end_ls (search_call query) end_spelled spelled in absurd cc
+end_only old new used (of_search mode past offset limit spelled u stays) = let e = one_call end_payload end_ls (search_call mode past offset limit) end_spelled spelled in absurd cc
 
 search_only : (old new : List JournalEntry) (used : Used) → Short old all_payload used new → (used ≡ used_nothing) × (new ≡ old)
-search_only old new used (of_start c d s h now drawn spelled ten u free stays) = let e = one_call all_payload (search_call all_hits) (start_call c d s h) all_spelled spelled in absurd cc
-search_only old new used (of_end id duration exit now spelled u was over stays) = let e = one_call all_payload (search_call all_hits) (end_call id duration exit) all_spelled spelled in absurd cc
-search_only old new used (of_search query spelled u stays) = (u, stays)
+search_only old new used (of_start c d s h now drawn spelled ten u free stays) = let e = one_call all_payload all_hits (start_call c d s h) all_spelled spelled in absurd cc
+search_only old new used (of_end id duration exit now spelled u was over stays) = let e = one_call all_payload all_hits (end_call id duration exit) all_spelled spelled in absurd cc
+search_only old new used (of_search mode past offset limit spelled u stays) = (u, stays)
 
 nine_drawn : (reply : PlainReply) (new : List JournalEntry) → PlainStep [] start_payload (record { readings = first_time ∷ []; drawn = replicate 9 0; faults = 0 }) reply new → ⊥
 nine_drawn reply new (unread place w u r) = let e = ap (λ (x : Used). x.readings) u in cc
@@ -636,8 +627,8 @@ nine_drawn reply new (end_unbegun id duration exit now spelled u never r) = let 
 nine_drawn reply new (end_again id duration exit now spelled u over r) = let e = ap (λ (x : Used). x.drawn) u in cc
 nine_drawn reply new (end_done id duration exit now s spelled u c same runs a) = let e = ap (λ (x : Used). x.drawn) u in cc
 nine_drawn reply new (end_short id duration exit now spelled u was over r) = let e = ap (λ (x : Used). x.drawn) u in cc
-nine_drawn reply new (searched query hits spelled u found a) = let e = ap (λ (x : Used). x.drawn) u in cc
-nine_drawn reply new (search_short query spelled u r) = let e = ap (λ (x : Used). x.drawn) u in cc
+nine_drawn reply new (searched mode past offset limit hits spelled u found a) = let e = ap (λ (x : Used). x.drawn) u in cc
+nine_drawn reply new (search_short mode past offset limit spelled u r) = let e = ap (λ (x : Used). x.drawn) u in cc
 
 pub wants : WorkedWants
 wants = record {

@@ -1,11 +1,11 @@
 -- Unless it is answered by want of memory, a payload has one reply at a sound journal, given what was read of the clock and
 -- drawn.
-use Rattle.std.proofs.Common.{◌≡◌, ◌≢◌, ℕ, ℤ, zero, suc, Bool, true, false, List, [], ◌∷◌, ◌++◌, length, refl, sym, ap, subst, ◌∙◌, inl, inr, ◌⊎◌}
+use Rattle.std.proofs.Common.{◌≡◌, ◌≢◌, ℕ, ℤ, zero, suc, Bool, true, false, List, [], ◌∷◌, ◌++◌, length, refl, sym, ap, ◌∙◌, inl, inr, ◌⊎◌}
 use Rattle.std.specs.List.{Contains}
 use Rattle.std.proofs.Common.{eqb}
 use Rattle.std.proofs.lemmas.Bool.{eq-eqb}
 use Rattle.definitions.specs.Spelling.{IsBytes}
-use Rattle.definitions.specs.Calls.{PlainCall, start_call, end_call, search_call, SearchQuery, SpellsCall, plain_kinds, WrongAt}
+use Rattle.definitions.specs.Calls.{PlainCall, start_call, end_call, search_call, SearchMode, SpellsCall, plain_kinds, WrongAt}
 use Rattle.definitions.specs.Ids.{made_id}
 use Rattle.definitions.specs.Journal.{StartedRecord, HistoryRecord, JournalEntry, begun, ended, begun_in, ended_in, was_begun, has_ended, finished, SoundJournal}
 use Rattle.definitions.specs.Replies.{PlainAnswer, began_id, stored_index, hit_list, unknown_id, random_fault, id_taken, no_memory, bad_request, PlainReply}
@@ -58,7 +58,7 @@ pub data Outcome (old : List JournalEntry) (payload : List ℕ) (used : Used) (a
   was_wrong : (place : ℕ) → WrongAt plain_kinds payload place → answer ≡ bad_request place → new ≡ old → Outcome old payload used answer new
   was_start : (command cwd session hostname : List ℕ) → SpellsCall (start_call command cwd session hostname) payload → ◌≡◌ {A = PlainAnswer × List JournalEntry} (answer, new) (start_outcome old command cwd session hostname used.readings used.drawn used.faults) → Outcome old payload used answer new
   was_end : (id : ℕ) (duration exit : ℤ) → SpellsCall (end_call id duration exit) payload → EndOutcome old id duration exit answer new → Outcome old payload used answer new
-  was_search : (query : SearchQuery) (hits : List HistoryRecord) → SpellsCall (search_call query) payload → IsAnswer query (ended_in old) hits → answer ≡ hit_list hits → new ≡ old → Outcome old payload used answer new
+  was_search : (mode : SearchMode) (past : List ℕ) (offset limit : ℕ) (hits : List HistoryRecord) → SpellsCall (search_call mode past offset limit) payload → IsAnswer offset limit (ended_in old) hits → answer ≡ hit_list hits → new ≡ old → Outcome old payload used answer new
   was_short : answer ≡ no_memory → Outcome old payload used answer new
 
 module _ (old : List JournalEntry) (used : Used) (reply : PlainReply) (new : List JournalEntry) where
@@ -91,8 +91,8 @@ Step-outcome old payload used reply new (end_unbegun id duration exit _ spelled 
 Step-outcome old payload used reply new (end_again id duration exit _ spelled _ over r) = was_end id duration exit spelled (not_running (inr over) (refused_answer old used reply new _ r) r.journal)
 Step-outcome old payload used reply new (end_done id duration exit _ s spelled _ c same runs a) = was_end id duration exit spelled (running s c same runs (answered_answer old used reply new _ _ a) a.journal)
 Step-outcome old payload used reply new (end_short _ _ _ _ _ _ _ _ r) = was_short (refused_answer old used reply new _ r)
-Step-outcome old payload used reply new (searched query hits spelled _ found a) = was_search query hits spelled found (answered_answer old used reply new _ _ a) a.journal
-Step-outcome old payload used reply new (search_short _ _ _ r) = was_short (refused_answer old used reply new _ r)
+Step-outcome old payload used reply new (searched mode past offset limit hits spelled _ found a) = was_search mode past offset limit hits spelled found (answered_answer old used reply new _ _ a) a.journal
+Step-outcome old payload used reply new (search_short _ _ _ _ _ _ r) = was_short (refused_answer old used reply new _ r)
 
 module _ (old : List JournalEntry) (payload : List ℕ) (used : Used) (a b : PlainAnswer) (x y : List JournalEntry) (are : IsBytes payload) (sound : SoundJournal old) where
   no_such : (call : PlainCall) (place : ℕ) → SpellsCall call payload → WrongAt plain_kinds payload place → (a ≡ b) × (x ≡ y)
@@ -117,12 +117,12 @@ module _ (old : List JournalEntry) (payload : List ℕ) (used : Used) (a b : Pla
   outcome_one a_told b_told (was_wrong place w is kept) (was_wrong place' w' is' kept') = (is ∙ ap (λ (n : ℕ). bad_request n) (one_place plain_kinds most_kinds payload place place' are w w') ∙ sym is', kept ∙ sym kept')
   outcome_one a_told b_told (was_wrong place w is kept) (was_start _ _ _ _ s _) = no_such _ place s w
   outcome_one a_told b_told (was_wrong place w is kept) (was_end _ _ _ s _) = no_such _ place s w
-  outcome_one a_told b_told (was_wrong place w is kept) (was_search _ _ s _ _ _) = no_such _ place s w
+  outcome_one a_told b_told (was_wrong place w is kept) (was_search _ _ _ _ _ s _ _ _) = no_such _ place s w
   outcome_one a_told b_told (was_start _ _ _ _ s p) (was_short is') = absurd (b_told is')
   outcome_one a_told b_told (was_start _ _ _ _ s p) (was_wrong place w _ _) = no_such _ place s w
   outcome_one a_told b_told (was_start _ _ _ _ s p) (was_start _ _ _ _ t q) = same_start _ _ _ _ _ _ _ _ (one_call payload _ _ s t) p q
   outcome_one a_told b_told (was_start _ _ _ _ s p) (was_end _ _ _ t _) = other_call _ _ s t (λ e. cc)
-  outcome_one a_told b_told (was_start _ _ _ _ s p) (was_search _ _ t _ _ _) = other_call _ _ s t (λ e. cc)
+  outcome_one a_told b_told (was_start _ _ _ _ s p) (was_search _ _ _ _ _ t _ _ _) = other_call _ _ s t (λ e. cc)
   outcome_one a_told b_told (was_end _ _ _ s p) (was_short is') = absurd (b_told is')
   outcome_one a_told b_told (was_end _ _ _ s p) (was_wrong place w _ _) = no_such _ place s w
   outcome_one a_told b_told (was_end _ _ _ s p) (was_start _ _ _ _ t _) = other_call _ _ s t (λ e. cc)
@@ -132,15 +132,16 @@ module _ (old : List JournalEntry) (payload : List ℕ) (used : Used) (a b : Pla
       let duration_is : duration ≡ duration' = cc in
       let exit_is : exit ≡ exit' = cc in
       end_one old id duration exit a b x y sound p (rw (id_is, duration_is, exit_is) q)
-  outcome_one a_told b_told (was_end _ _ _ s p) (was_search _ _ t _ _ _) = other_call _ _ s t (λ e. cc)
-  outcome_one a_told b_told (was_search _ _ s _ _ _) (was_short is') = absurd (b_told is')
-  outcome_one a_told b_told (was_search _ _ s _ _ _) (was_wrong place w _ _) = no_such _ place s w
-  outcome_one a_told b_told (was_search _ _ s _ _ _) (was_start _ _ _ _ t _) = other_call _ _ s t (λ e. cc)
-  outcome_one a_told b_told (was_search _ _ s _ _ _) (was_end _ _ _ t _) = other_call _ _ s t (λ e. cc)
-  outcome_one a_told b_told (was_search query hits s found is kept) (was_search query' hits' t found' is' kept') =
-      let same : search_call query ≡ search_call query' = one_call payload _ _ s t in
-      let query_is : query ≡ query' = cc in
-      let one = IsAnswer-one query (ended_in old) hits hits' sound.ended_own found (subst (λ (q : SearchQuery). IsAnswer q (ended_in old) hits') (sym query_is) found') in
+  outcome_one a_told b_told (was_end _ _ _ s p) (was_search _ _ _ _ _ t _ _ _) = other_call _ _ s t (λ e. cc)
+  outcome_one a_told b_told (was_search _ _ _ _ _ s _ _ _) (was_short is') = absurd (b_told is')
+  outcome_one a_told b_told (was_search _ _ _ _ _ s _ _ _) (was_wrong place w _ _) = no_such _ place s w
+  outcome_one a_told b_told (was_search _ _ _ _ _ s _ _ _) (was_start _ _ _ _ t _) = other_call _ _ s t (λ e. cc)
+  outcome_one a_told b_told (was_search _ _ _ _ _ s _ _ _) (was_end _ _ _ t _) = other_call _ _ s t (λ e. cc)
+  outcome_one a_told b_told (was_search mode past offset limit hits s found is kept) (was_search mode' past' offset' limit' hits' t found' is' kept') =
+      let same : search_call mode past offset limit ≡ search_call mode' past' offset' limit' = one_call payload _ _ s t in
+      let offset_is : offset ≡ offset' = cc in
+      let limit_is : limit ≡ limit' = cc in
+      let one = IsAnswer-one offset limit (ended_in old) hits hits' sound.ended_own found (rw (offset_is, limit_is) found') in
       (is ∙ ap (λ (hs : List HistoryRecord). hit_list hs) one ∙ sym is', kept ∙ sym kept')
 
 -- a payload has one reply, and leaves one journal

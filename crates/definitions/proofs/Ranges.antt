@@ -53,8 +53,8 @@ Step-fits old payload used reply new in_range fits (end_unbegun _ _ _ _ _ _ _ r)
 Step-fits old payload used reply new in_range fits (end_again _ _ _ _ _ _ _ r) = fits_at new old r.journal fits
 Step-fits old payload used reply new in_range fits (end_done _ _ _ _ _ _ _ _ _ _ a) = fits_at new _ a.journal (FitsJournal-ended old _ refl fits)
 Step-fits old payload used reply new in_range fits (end_short _ _ _ _ _ _ _ _ r) = fits_at new old r.journal fits
-Step-fits old payload used reply new in_range fits (searched _ _ _ _ _ a) = fits_at new old a.journal fits
-Step-fits old payload used reply new in_range fits (search_short _ _ _ r) = fits_at new old r.journal fits
+Step-fits old payload used reply new in_range fits (searched _ _ _ _ _ _ _ _ a) = fits_at new old a.journal fits
+Step-fits old payload used reply new in_range fits (search_short _ _ _ _ _ _ r) = fits_at new old r.journal fits
 
 pub Run-fits : (old : List JournalEntry) (payloads : List (List ℕ)) (used : Used) (replies : List PlainReply) (new : List JournalEntry) → UsedFits used → FitsJournal old → Run old payloads used replies new → FitsJournal new
 Run-fits old [] used [] new in_range fits run = fits_at new old run.1 fits

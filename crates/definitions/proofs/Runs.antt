@@ -102,8 +102,8 @@ Step-faults old payload used reply new (end_unbegun id _ _ now _ u _ r) = faults
 Step-faults old payload used reply new (end_again id _ _ now _ u _ r) = faults-of _ _ _ _ u r.reply_is refl
 Step-faults old payload used reply new (end_done id _ _ now s _ u _ _ _ r) = faults-of _ _ _ _ u r.reply_is refl
 Step-faults old payload used reply new (end_short id _ _ now _ u _ _ r) = faults-of _ _ _ _ u r.reply_is refl
-Step-faults old payload used reply new (searched query hits _ u _ r) = faults-of _ _ _ _ u r.reply_is refl
-Step-faults old payload used reply new (search_short query _ u r) = faults-of _ _ _ _ u r.reply_is refl
+Step-faults old payload used reply new (searched _ _ _ _ _ _ u _ r) = faults-of _ _ _ _ u r.reply_is refl
+Step-faults old payload used reply new (search_short _ _ _ _ _ u r) = faults-of _ _ _ _ u r.reply_is refl
 
 -- the faults of a run are its replies that say so
 pub Run-faults : (old : List JournalEntry) (payloads : List (List ℕ)) (used : Used) (replies : List PlainReply) (new : List JournalEntry) → Run old payloads used replies new → used.faults ≡ random_faults replies

@@ -1,16 +1,15 @@
 -- A search has one answer, since no two ended commands have one id; and what it is for a query to stand in a text.
 use Rattle.std.proofs.Common.{◌≡◌, ◌≢◌, ℕ, suc, ◌+◌, Bool, true, false, ◌||◌, ◌&&◌, eqb, ltb, List, [], ◌∷◌, ◌++◌, length, drop, refl, sym, ap, subst, ◌∙◌, append_assoc, append-nil, length-append, arith, inl, inr, ◌⊎◌}
-use Rattle.std.specs.List.{filter, starts_with, sum_by}
+use Rattle.std.specs.List.{starts_with, sum_by}
 use Rattle.std.specs.List.Sorted.{IsPermutation, IsSortedBy}
 use Rattle.std.specs.Cmp.{IsStrictWeakOrder}
 use Rattle.std.proofs.lemmas.Bool.Decides.{nat_tests, Decides-eqb}
 use Rattle.std.proofs.lemmas.List.Sorted.{IsPermutation-sym, IsPermutation-trans, sorted_far}
 use Rattle.std.proofs.lemmas.List.Sums.{sum_by-append}
 use Rattle.std.proofs.lemmas.Slice.Eq.{starts_is}
-use Rattle.definitions.specs.Calls.{SearchQuery}
 use Rattle.definitions.specs.Journal.{HistoryRecord, HaveOwnIds}
-use Rattle.definitions.specs.Search.{stands_in, matches_by, is_shown_before, hit_bytes, FitsPage, IsPage, IsAnswer}
-use Rattle.definitions.proofs.Among.{Contains-from_Among, Among-permutation, HaveOwnIds-filter, HaveOwnIds-permutation, HaveOwnIds-apart, HaveOwnIds-tail, InOrder, one_order}
+use Rattle.definitions.specs.Search.{stands_in, is_shown_before, hit_bytes, FitsPage, IsPage, IsAnswer}
+use Rattle.definitions.proofs.Among.{Contains-from_Among, Among-permutation, HaveOwnIds-permutation, HaveOwnIds-apart, HaveOwnIds-tail, InOrder, one_order}
 
 -- ---- the order of hits
 
@@ -106,12 +105,10 @@ module _ {X : Type 0} (bytes_of : X → ℕ) (limit : ℕ) where
       ]
 
 -- a search has one answer
-pub IsAnswer-one : (query : SearchQuery) (entries page other : List HistoryRecord) → HaveOwnIds (λ h. h.id) entries → IsAnswer query entries page → IsAnswer query entries other → page ≡ other
-IsAnswer-one query entries page other own p q =
-    let all = filter (λ (h : HistoryRecord). matches_by query.mode query.text h.command) entries in
-    let found = HaveOwnIds-filter HistoryRecord (λ h. h.id) (λ (h : HistoryRecord). matches_by query.mode query.text h.command) entries own in
-    let same = one_sorted all p.in_order q.in_order found p.matching q.matching p.sorted q.sorted in
-    IsPage-one hit_bytes query.limit (drop query.offset q.in_order) page other (subst (λ (hs : List HistoryRecord). IsPage hit_bytes query.limit (drop query.offset hs) page) same p.cut) q.cut
+pub IsAnswer-one : (offset limit : ℕ) (entries page other : List HistoryRecord) → HaveOwnIds (λ h. h.id) entries → IsAnswer offset limit entries page → IsAnswer offset limit entries other → page ≡ other
+IsAnswer-one offset limit entries page other own p q =
+    let same = one_sorted entries p.in_order q.in_order own p.all q.all p.sorted q.sorted in
+    IsPage-one hit_bytes limit (drop offset q.in_order) page other (subst (λ (hs : List HistoryRecord). IsPage hit_bytes limit (drop offset hs) page) same p.cut) q.cut
 
 -- ---- where a query stands
 

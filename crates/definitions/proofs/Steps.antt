@@ -53,8 +53,8 @@ Step-grows old payload used reply new (end_unbegun _ _ _ _ _ _ _ r) = kept old r
 Step-grows old payload used reply new (end_again _ _ _ _ _ _ _ r) = kept old reply new _ r
 Step-grows old payload used reply new (end_done _ _ _ _ _ _ _ _ _ _ a) = grown old reply new _ _ a
 Step-grows old payload used reply new (end_short _ _ _ _ _ _ _ _ r) = kept old reply new _ r
-Step-grows old payload used reply new (searched _ _ _ _ _ a) = shown old reply new _ a
-Step-grows old payload used reply new (search_short _ _ _ r) = kept old reply new _ r
+Step-grows old payload used reply new (searched _ _ _ _ _ _ _ _ a) = shown old reply new _ a
+Step-grows old payload used reply new (search_short _ _ _ _ _ _ r) = kept old reply new _ r
 
 -- a refusal leaves the journal
 pub Step-refused : (old : List JournalEntry) (payload : List ℕ) (used : Used) (reply : PlainReply) (new : List JournalEntry) → PlainStep old payload used reply new → is_plain_refusal reply.answer ≡ true → new ≡ old
@@ -67,8 +67,8 @@ Step-refused old payload used reply new (end_unbegun _ _ _ _ _ _ _ r) e = r.jour
 Step-refused old payload used reply new (end_again _ _ _ _ _ _ _ r) e = r.journal
 Step-refused old payload used reply new (end_done _ _ _ _ _ _ _ _ _ _ a) e = absurd (let told = sym (ap (λ (x : PlainReply). is_plain_refusal x.answer) a.reply_is) ∙ e in cc)
 Step-refused old payload used reply new (end_short _ _ _ _ _ _ _ _ r) e = r.journal
-Step-refused old payload used reply new (searched _ _ _ _ _ a) e = a.journal
-Step-refused old payload used reply new (search_short _ _ _ r) e = r.journal
+Step-refused old payload used reply new (searched _ _ _ _ _ _ _ _ a) e = a.journal
+Step-refused old payload used reply new (search_short _ _ _ _ _ _ r) e = r.journal
 
 pub Run-grows : (old : List JournalEntry) (payloads : List (List ℕ)) (used : Used) (replies : List PlainReply) (new : List JournalEntry) → Run old payloads used replies new → (added : List JournalEntry) × (new ≡ old ++ added)
 Run-grows old [] used [] new run = ([], run.1 ∙ sym (append-nil old))
@@ -140,8 +140,8 @@ Step-sound old payload used reply new sound (end_again _ _ _ _ _ _ _ r) = sound_
 Step-sound old payload used reply new sound (end_done id duration exit _ s _ _ started same running a) =
     sound_at new _ a.journal (SoundJournal-ended old s duration exit sound started (subst (λ (n : ℕ). has_ended n old ≡ false) (sym same) running))
 Step-sound old payload used reply new sound (end_short _ _ _ _ _ _ _ _ r) = sound_at new old r.journal sound
-Step-sound old payload used reply new sound (searched _ _ _ _ _ a) = sound_at new old a.journal sound
-Step-sound old payload used reply new sound (search_short _ _ _ r) = sound_at new old r.journal sound
+Step-sound old payload used reply new sound (searched _ _ _ _ _ _ _ _ a) = sound_at new old a.journal sound
+Step-sound old payload used reply new sound (search_short _ _ _ _ _ _ r) = sound_at new old r.journal sound
 
 pub Run-sound : (old : List JournalEntry) (payloads : List (List ℕ)) (used : Used) (replies : List PlainReply) (new : List JournalEntry) → SoundJournal old → Run old payloads used replies new → SoundJournal new
 Run-sound old [] used [] new sound run = sound_at new old run.1 sound

@@ -89,6 +89,7 @@ pub data SearchMode : Type 0 where
   by_prefix : SearchMode
   by_substring : SearchMode
 
+-- what a search over the views asks; a plain one has no text to match
 pub record SearchQuery : Type 0 where
   pub mode : SearchMode
   pub text : List ℕ
@@ -100,9 +101,10 @@ pub data PlainCall : Type 0 where
   start_call : List ℕ → List ℕ → List ℕ → List ℕ → PlainCall
   -- the id of a running command, its duration in nanoseconds and its exit status
   end_call : ℕ → ℤ → ℤ → PlainCall
-  search_call : SearchQuery → PlainCall
+  -- for all: a mode that makes no difference, a filter's text that is read past, the offset and the limit
+  search_call : SearchMode → List ℕ → ℕ → ℕ → PlainCall
 
--- the arguments of a Start, an End and a Search; a Search has no filter and no unique hits yet
+-- the arguments of a Start, an End and a Search; a Search has no filter, no query and no unique hits yet
 abbrev pub start_kinds : List Kind
 start_kinds = any_text ∷ any_text ∷ any_text ∷ any_text ∷ []
 
@@ -110,7 +112,7 @@ abbrev pub end_kinds : List Kind
 end_kinds = id_digits ∷ signed_64 ∷ signed_64 ∷ []
 
 abbrev pub plain_search_kinds : List Kind
-plain_search_kinds = from_to 0 1 ∷ from_to 0 0 ∷ empty_text ∷ any_text ∷ from_to 0 0 ∷ from_to 0 (2 ^ 32 - 1) ∷ from_to 1 1000 ∷ []
+plain_search_kinds = from_to 0 1 ∷ from_to 0 0 ∷ any_text ∷ empty_text ∷ from_to 0 0 ∷ from_to 0 (2 ^ 32 - 1) ∷ from_to 1 1000 ∷ []
 
 -- the kinds of the arguments of the call of a number: 1 Start, 2 End, 4 Search
 abbrev pub plain_kinds : ℕ → Option (List Kind)
@@ -123,19 +125,19 @@ mode_number by_substring = 1
 abbrev pub call_number : PlainCall → ℕ
 call_number (start_call command cwd session hostname) = 1
 call_number (end_call id duration exit) = 2
-call_number (search_call query) = 4
+call_number (search_call mode past offset limit) = 4
 
 abbrev pub arguments : PlainCall → List Argument
 arguments (start_call command cwd session hostname) = a_text command ∷ a_text cwd ∷ a_text session ∷ a_text hostname ∷ []
 arguments (end_call id duration exit) = a_text (id_text id) ∷ an_integer duration ∷ an_integer exit ∷ []
-arguments (search_call query) =
-    an_integer (pos (mode_number query.mode)) ∷ an_integer (pos 0) ∷ a_text [] ∷ a_text query.text ∷ an_integer (pos 0) ∷ an_integer (pos query.offset) ∷ an_integer (pos query.limit) ∷ []
+arguments (search_call mode past offset limit) =
+    an_integer (pos (mode_number mode)) ∷ an_integer (pos 0) ∷ a_text past ∷ a_text [] ∷ an_integer (pos 0) ∷ an_integer (pos offset) ∷ an_integer (pos limit) ∷ []
 
 -- an id has 128 bits
 abbrev pub IdFits : PlainCall → Type 0
 IdFits (start_call command cwd session hostname) = Unit {0}
 IdFits (end_call id duration exit) = id < 2 ^ 128
-IdFits (search_call query) = Unit {0}
+IdFits (search_call mode past offset limit) = Unit {0}
 
 -- the payload is the call's number and its arguments
 pub record SpellsCall (call : PlainCall) (payload : List ℕ) : Type 0 where

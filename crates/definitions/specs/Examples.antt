@@ -5,7 +5,7 @@ use Rattle.std.specs.Prelude.{◌≡◌, ℕ, pos, negsuc, List, [], ◌∷◌, 
 use Rattle.definitions.specs.Spelling.{IsBytes, SpellsInteger, IsInteger, IsSpellable, written_integer, text_head, SpellsText, IsText, shortest_text, written_text, SpellsArray, IsArray, written_array}
 use Rattle.definitions.specs.Frames.{frame, frames, named_length, NoWholeFrame, CutFrame, LongFrame, whole_stream, cut_stream, long_stream, StreamEnds, CutAfter}
 use Rattle.definitions.specs.Ids.{made_id, id_text}
-use Rattle.definitions.specs.Calls.{by_prefix, by_substring, SearchQuery, PlainCall, start_call, end_call, search_call, plain_kinds, SpellsCall, WrongAt}
+use Rattle.definitions.specs.Calls.{by_prefix, by_substring, PlainCall, start_call, end_call, search_call, plain_kinds, SpellsCall, WrongAt}
 use Rattle.definitions.specs.Journal.{StartedRecord, HistoryRecord, JournalEntry, begun, ended, begun_in, ended_in, HaveOwnIds, was_begun, has_ended, finished, SoundJournal, FitsJournal}
 use Rattle.definitions.specs.Search.{compared, matches_by, is_shown_before, hit_bytes, FitsPage, IsPage, IsAnswer}
 use Rattle.definitions.specs.Replies.{PlainAnswer, began_id, stored_index, hit_list, unknown_id, random_fault, id_taken, no_memory, bad_request, is_plain_refusal, PlainReply, plain_reply_bytes}
@@ -183,19 +183,19 @@ abbrev pub end_payload : List ℕ
 end_payload = 0x94 ∷ 0x02 ∷ 0xd9 ∷ 0x20 ∷ (first_digits ++ 0xcd ∷ 0x03 ∷ 0xe8 ∷ 0x00 ∷ [])
 
 -- the first ten of all commands
-abbrev pub all_hits : SearchQuery
-all_hits = record { mode = by_prefix; text = []; offset = 0; limit = 10 }
+abbrev pub all_hits : PlainCall
+all_hits = search_call by_prefix [] 0 10
 
 abbrev pub all_payload : List ℕ
 all_payload = 0x98 ∷ 0x04 ∷ 0x00 ∷ 0x00 ∷ 0xa0 ∷ 0xa0 ∷ 0x00 ∷ 0x00 ∷ 0x0a ∷ []
 
--- the third of those with "l" in them
-abbrev pub third_hit : SearchQuery
-third_hit = record { mode = by_substring; text = codes "l"; offset = 2; limit = 1 }
+-- the third, with a text of the filter, "x", that is read past
+abbrev pub third_hit : PlainCall
+third_hit = search_call by_substring (codes "x") 2 1
 
 -- a thousand, behind as many as can be left out
-abbrev pub last_hits : SearchQuery
-last_hits = record { mode = by_prefix; text = []; offset = 4294967295; limit = 1000 }
+abbrev pub last_hits : PlainCall
+last_hits = search_call by_prefix [] 4294967295 1000
 
 pub record WorkedCalls : Type 0 where
   pub start : SpellsCall start_ls start_payload
@@ -205,9 +205,9 @@ pub record WorkedCalls : Type 0 where
   -- a duration of -2^63 and a status of one less than 2^63
   pub end_far : SpellsCall (end_call first_id (negsuc 9223372036854775807) (pos 9223372036854775807))
       (0x94 ∷ 0x02 ∷ 0xd9 ∷ 0x20 ∷ (first_digits ++ 0xd3 ∷ 0x80 ∷ 0x00 ∷ 0x00 ∷ 0x00 ∷ 0x00 ∷ 0x00 ∷ 0x00 ∷ 0x00 ∷ 0xcf ∷ 0x7f ∷ 0xff ∷ 0xff ∷ 0xff ∷ 0xff ∷ 0xff ∷ 0xff ∷ 0xff ∷ []))
-  pub search : SpellsCall (search_call all_hits) all_payload
-  pub search_third : SpellsCall (search_call third_hit) (0x98 ∷ 0x04 ∷ 0x01 ∷ 0x00 ∷ 0xa0 ∷ 0xa1 ∷ 0x6c ∷ 0x00 ∷ 0x02 ∷ 0x01 ∷ [])
-  pub search_last : SpellsCall (search_call last_hits) (0x98 ∷ 0x04 ∷ 0x00 ∷ 0x00 ∷ 0xa0 ∷ 0xa0 ∷ 0x00 ∷ 0xce ∷ 0xff ∷ 0xff ∷ 0xff ∷ 0xff ∷ 0xcd ∷ 0x03 ∷ 0xe8 ∷ [])
+  pub search : SpellsCall all_hits all_payload
+  pub search_third : SpellsCall third_hit (0x98 ∷ 0x04 ∷ 0x01 ∷ 0x00 ∷ 0xa1 ∷ 0x78 ∷ 0xa0 ∷ 0x00 ∷ 0x02 ∷ 0x01 ∷ [])
+  pub search_last : SpellsCall last_hits (0x98 ∷ 0x04 ∷ 0x00 ∷ 0x00 ∷ 0xa0 ∷ 0xa0 ∷ 0x00 ∷ 0xce ∷ 0xff ∷ 0xff ∷ 0xff ∷ 0xff ∷ 0xcd ∷ 0x03 ∷ 0xe8 ∷ [])
   -- no payload spells an id of 129 bits
   pub id_above : (payload : List ℕ) → SpellsCall (end_call 340282366920938463463374607431768211456 (pos 0) (pos 0)) payload → ⊥
 
@@ -234,11 +234,12 @@ pub record WorkedFaults : Type 0 where
   pub digits_31 : WrongAt plain_kinds (0x94 ∷ 0x02 ∷ 0xbf ∷ codes "018bcfe568007001820304050607080") 2
   pub long_duration : WrongAt plain_kinds (0x94 ∷ 0x02 ∷ 0xd9 ∷ 0x20 ∷ (first_digits ++ 0xcf ∷ 0x80 ∷ 0x00 ∷ 0x00 ∷ 0x00 ∷ 0x00 ∷ 0x00 ∷ 0x00 ∷ 0x00 ∷ [])) 36
   pub status_text : WrongAt plain_kinds (0x94 ∷ 0x02 ∷ 0xd9 ∷ 0x20 ∷ (first_digits ++ 0x00 ∷ 0xa0 ∷ [])) 37
-  -- a Search with the mode 2, the filter 1, a filter's text, unique hits, an offset of 2^32, one below 0, and a limit
-  -- of 0 and of 1,001
+  -- a Search with the mode 2, the filter 1, a number for the filter's text, a query, unique hits, an offset of 2^32, one
+  -- below 0, and a limit of 0 and of 1,001
   pub mode_2 : WrongAt plain_kinds (0x98 ∷ 0x04 ∷ 0x02 ∷ []) 2
   pub filter_1 : WrongAt plain_kinds (0x98 ∷ 0x04 ∷ 0x00 ∷ 0x01 ∷ []) 3
-  pub filter_text : WrongAt plain_kinds (0x98 ∷ 0x04 ∷ 0x00 ∷ 0x00 ∷ 0xa1 ∷ 0x78 ∷ []) 4
+  pub filter_number : WrongAt plain_kinds (0x98 ∷ 0x04 ∷ 0x00 ∷ 0x00 ∷ 0x05 ∷ []) 4
+  pub query : WrongAt plain_kinds (0x98 ∷ 0x04 ∷ 0x00 ∷ 0x00 ∷ 0xa0 ∷ 0xa2 ∷ 0x6c ∷ 0x73 ∷ 0x00 ∷ 0x00 ∷ 0x0a ∷ []) 5
   pub unique : WrongAt plain_kinds (0x98 ∷ 0x04 ∷ 0x00 ∷ 0x00 ∷ 0xa0 ∷ 0xa0 ∷ 0x01 ∷ []) 6
   pub offset_above : WrongAt plain_kinds (0x98 ∷ 0x04 ∷ 0x00 ∷ 0x00 ∷ 0xa0 ∷ 0xa0 ∷ 0x00 ∷ 0xcf ∷ 0x00 ∷ 0x00 ∷ 0x00 ∷ 0x01 ∷ 0x00 ∷ 0x00 ∷ 0x00 ∷ 0x00 ∷ 0x0a ∷ []) 7
   pub offset_below : WrongAt plain_kinds (0x98 ∷ 0x04 ∷ 0x00 ∷ 0x00 ∷ 0xa0 ∷ 0xa0 ∷ 0x00 ∷ 0xff ∷ 0x0a ∷ []) 7
@@ -297,9 +298,9 @@ pub record WorkedJournals : Type 0 where
 abbrev pub hit_at : (id timestamp : ℕ) (command : List ℕ) → HistoryRecord
 hit_at id timestamp command = record { id = id; timestamp = timestamp; duration = pos 0; exit = pos 0; command = command; cwd = codes "/"; session = codes "s1"; hostname = codes "h:u"; deleted_at = None }
 
--- four commands as they ended
-abbrev pub four_ended : List HistoryRecord
-four_ended = hit_at 4 10 (codes "ls") ∷ hit_at 3 20 (codes "pwd") ∷ hit_at 2 30 (codes "LS -l") ∷ hit_at 1 30 (codes "ls -a") ∷ []
+-- three, in the order in which they ended
+abbrev pub three_ended : List HistoryRecord
+three_ended = hit_at 4 10 (codes "ls") ∷ hit_at 2 30 (codes "LS -l") ∷ hit_at 1 30 (codes "ls -a") ∷ []
 
 pub record WorkedMatches : Type 0 where
   -- a query without capitals is compared with the command's letters folded, and one with a capital exactly
@@ -338,12 +339,12 @@ pub record WorkedSearches : Type 0 where
   pub too_heavy : (h : HistoryRecord) → hit_bytes h ≡ 4194297 → FitsPage hit_bytes 10 (h ∷ ls_ended ∷ []) → ⊥
   pub single : (h : HistoryRecord) → hit_bytes h ≡ 9000000 → IsPage hit_bytes 10 (h ∷ ls_ended ∷ []) (h ∷ [])
   pub none_allowed : FitsPage hit_bytes 0 (ls_ended ∷ []) → ⊥
-  -- those with "ls", newest first, and of one time the lesser id first; then without the first one, and then the first
-  -- one alone
-  pub answer : IsAnswer (record { mode = by_prefix; text = codes "ls"; offset = 0; limit = 10 }) four_ended (hit_at 1 30 (codes "ls -a") ∷ hit_at 2 30 (codes "LS -l") ∷ hit_at 4 10 (codes "ls") ∷ [])
-  pub without_first : IsAnswer (record { mode = by_prefix; text = codes "ls"; offset = 1; limit = 10 }) four_ended (hit_at 2 30 (codes "LS -l") ∷ hit_at 4 10 (codes "ls") ∷ [])
-  pub first_alone : IsAnswer (record { mode = by_prefix; text = codes "ls"; offset = 0; limit = 1 }) four_ended (hit_at 1 30 (codes "ls -a") ∷ [])
-  pub behind_the_last : IsAnswer (record { mode = by_prefix; text = codes "ls"; offset = 4; limit = 10 }) four_ended []
+  -- all of them, newest first, and of one time the lesser id first; then without the first one, and then the first one
+  -- alone
+  pub answer : IsAnswer 0 10 three_ended (hit_at 1 30 (codes "ls -a") ∷ hit_at 2 30 (codes "LS -l") ∷ hit_at 4 10 (codes "ls") ∷ [])
+  pub without_first : IsAnswer 1 10 three_ended (hit_at 2 30 (codes "LS -l") ∷ hit_at 4 10 (codes "ls") ∷ [])
+  pub first_alone : IsAnswer 0 1 three_ended (hit_at 1 30 (codes "ls -a") ∷ [])
+  pub behind_the_last : IsAnswer 4 10 three_ended []
 
 -- ---- replies
 

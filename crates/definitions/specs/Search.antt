@@ -1,9 +1,9 @@
--- Search: which ended commands match, in which order they are shown, and how many of them.
+-- Search: what it is for a query to match, in which order commands are shown, and how many of them.
 use Rattle.std.specs.Prelude.{◌≡◌, ℕ, ◌+◌, ◌≤◌, List, [], ◌∷◌, ◌++◌, map, length, drop, Bool, ◌&&◌, ◌||◌, cond, eqb, nat_lt, ◌==◌, ◌⊎◌}
-use Rattle.std.specs.List.{list_any, filter, starts_with, sum_by}
+use Rattle.std.specs.List.{list_any, starts_with, sum_by}
 use Rattle.std.specs.List.Sorted.{IsPermutation, IsSortedBy}
 use Rattle.std.specs.Char.{is_ascii_uppercase, to_ascii_lowercase}
-use Rattle.definitions.specs.Calls.{SearchMode, by_prefix, by_substring, SearchQuery}
+use Rattle.definitions.specs.Calls.{SearchMode, by_prefix, by_substring}
 use Rattle.definitions.specs.Journal.{HistoryRecord}
 
 -- what several items in one reply may weigh together, in bytes of their texts
@@ -41,9 +41,9 @@ pub record IsPage {X : Type 0} (bytes_of : X → ℕ) (limit : ℕ) (all page : 
   pub fits : FitsPage bytes_of limit page
   pub most : (next : X) (others : List X) → rest ≡ next ∷ others → FitsPage bytes_of limit (page ++ next ∷ []) → ⊥
 
--- the answer to a query: those that match, in order, without the first `offset`, and as many as fit
-pub record IsAnswer (query : SearchQuery) (entries page : List HistoryRecord) : Type 0 where
+-- the answer to a search for all: the commands in order, without the first `offset`, and as many as fit
+pub record IsAnswer (offset limit : ℕ) (entries page : List HistoryRecord) : Type 0 where
   pub in_order : List HistoryRecord
-  pub matching : IsPermutation (filter (λ (h : HistoryRecord). matches_by query.mode query.text h.command) entries) in_order
+  pub all : IsPermutation entries in_order
   pub sorted : IsSortedBy is_shown_before in_order
-  pub cut : IsPage hit_bytes query.limit (drop query.offset in_order) page
+  pub cut : IsPage hit_bytes limit (drop offset in_order) page

@@ -2,7 +2,7 @@
 use Rattle.std.specs.Prelude.{◌≡◌, ℕ, ◌+◌, ◌<◌, ◌^◌, ℤ, List, [], ◌∷◌, ◌++◌, length, true, false}
 use Rattle.std.specs.List.{All, Contains}
 use Rattle.definitions.specs.Spelling.{IsBytes}
-use Rattle.definitions.specs.Calls.{start_call, end_call, search_call, SearchQuery, SpellsCall, plain_kinds, WrongAt}
+use Rattle.definitions.specs.Calls.{start_call, end_call, search_call, SearchMode, SpellsCall, plain_kinds, WrongAt}
 use Rattle.definitions.specs.Ids.{made_id}
 use Rattle.definitions.specs.Journal.{StartedRecord, HistoryRecord, JournalEntry, begun, ended, begun_in, ended_in, was_begun, has_ended, finished}
 use Rattle.definitions.specs.Search.{IsAnswer}
@@ -73,6 +73,7 @@ pub data PlainStep (old : List JournalEntry) (payload : List ℕ) (used : Used) 
   end_short : (id : ℕ) (duration exit : ℤ) (now : ℕ) → SpellsCall (end_call id duration exit) payload → used ≡ read_clock now
       → was_begun id old ≡ true → has_ended id old ≡ false → PlainRefuses old new reply no_memory → PlainStep old payload used reply new
   -- Search
-  searched : (query : SearchQuery) (hits : List HistoryRecord) → SpellsCall (search_call query) payload → used ≡ used_nothing
-      → IsAnswer query (ended_in old) hits → Answers old new reply (hit_list hits) → PlainStep old payload used reply new
-  search_short : (query : SearchQuery) → SpellsCall (search_call query) payload → used ≡ used_nothing → PlainRefuses old new reply no_memory → PlainStep old payload used reply new
+  searched : (mode : SearchMode) (past : List ℕ) (offset limit : ℕ) (hits : List HistoryRecord) → SpellsCall (search_call mode past offset limit) payload → used ≡ used_nothing
+      → IsAnswer offset limit (ended_in old) hits → Answers old new reply (hit_list hits) → PlainStep old payload used reply new
+  search_short : (mode : SearchMode) (past : List ℕ) (offset limit : ℕ) → SpellsCall (search_call mode past offset limit) payload → used ≡ used_nothing
+      → PlainRefuses old new reply no_memory → PlainStep old payload used reply new

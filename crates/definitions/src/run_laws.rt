@@ -3,7 +3,6 @@
 ghost use Rattle.std.specs.Prelude.{◌≡◌, ◌≢◌, ℕ, List, [], ◌++◌, length, true};
 ghost use Rattle.std.specs.List.{All};
 ghost use Rattle.definitions.specs.Spelling.{IsBytes};
-ghost use Rattle.definitions.specs.Calls.{SearchQuery};
 ghost use Rattle.definitions.specs.Journal.{HistoryRecord, JournalEntry, HaveOwnIds, FitsJournal, SoundJournal};
 ghost use Rattle.definitions.specs.Replies.{PlainReply, no_memory, is_plain_refusal};
 ghost use Rattle.definitions.specs.Search.{IsAnswer};
@@ -48,7 +47,7 @@ pub fn a_run_leaves_a_sound_journal()
     ensures front { (old : List JournalEntry) (payload : List ℕ) (used : Used) (reply : PlainReply) (new : List JournalEntry) → PlainStep old payload used reply new → reply.front ≡ length new }
 {}
 
-/// Over commands with ids of their own a query has at most one answer.
+/// Over commands with ids of their own a search has at most one answer.
 pub fn a_search_has_one_answer()
-    ensures { (query : SearchQuery) (entries page other : List HistoryRecord) → HaveOwnIds (λ (h : HistoryRecord). h.id) entries → IsAnswer query entries page → IsAnswer query entries other → page ≡ other }
+    ensures { (offset limit : ℕ) (entries page other : List HistoryRecord) → HaveOwnIds (λ (h : HistoryRecord). h.id) entries → IsAnswer offset limit entries page → IsAnswer offset limit entries other → page ≡ other }
 {}

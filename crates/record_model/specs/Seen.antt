@@ -1,4 +1,4 @@
--- Which word of the definitions each type stands for.
+-- Which word of the definitions a type stands for.
 use Rattle.std.specs.Prelude.{List, map, Result, Ok, Err}
 use Rattle.definitions.specs.Calls.{SearchMode, by_prefix, by_substring}
 use Rattle.definitions.specs.Journal.{StartedRecord, HistoryRecord}

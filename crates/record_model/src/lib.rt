@@ -2,8 +2,8 @@
 //!
 //! A [`Started`] is a command that runs, a [`History`] one that ended, a [`Call`] what a client asks and a [`Reply`]
 //! what it is answered. Contracts see the fields, a [`Text`] as the list of its bytes and [`Histories`] as a list;
-//! `specs/Seen.antt` says which word of the definitions each type stands for. Copies are equal values, and a type
-//! that holds many hands them back without taking memory. Stands on `plain_types` and `definitions`.
+//! `specs/Seen.antt` says which word of the definitions a command that is kept, a mode and a reply stand for. Copies are
+//! equal values, and a type that holds many hands them back without taking memory. Stands on `plain_types` and `definitions`.
 #![tactic(auto)]
 
 mod asking;

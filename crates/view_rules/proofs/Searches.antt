@@ -1,16 +1,14 @@
 -- A search has one answer.
-use Rattle.std.proofs.Common.{◌≡◌, ◌≢◌, ℕ, suc, ◌+◌, Bool, true, false, ◌||◌, ◌&&◌, eqb, ltb, cond, List, [], ◌∷◌, drop, refl, sym, ap, subst, ◌∙◌, arith, inl, inr}
+use Rattle.std.proofs.Common.{◌≡◌, ℕ, Bool, true, false, cond, List, [], ◌∷◌, drop, refl, sym, ap, subst, ◌∙◌, inl, inr}
 use Rattle.std.specs.Prelude.{◌↔◌}
 use Rattle.std.specs.List.{Contains, filter}
-use Rattle.std.specs.List.Sorted.{IsPermutation, IsSortedBy}
-use Rattle.std.specs.Cmp.{IsStrictWeakOrder}
-use Rattle.std.proofs.lemmas.Bool.Decides.{nat_tests}
-use Rattle.std.proofs.lemmas.List.Sorted.{IsPermutation-sym, sorted_far}
-use Rattle.definitions.specs.Journal.{HistoryRecord, HaveOwnIds}
-use Rattle.definitions.specs.Calls.{SearchQuery}
-use Rattle.definitions.specs.Search.{is_shown_before, hit_bytes, IsPage, IsAnswer}
-use Rattle.definitions.proofs.Among.{Among, Among-from_place, Contains-from_Among, Among-permutation, HaveOwnIds-filter, HaveOwnIds-permutation, HaveOwnIds-apart, HaveOwnIds-tail, InOrder, one_order}
-use Rattle.definitions.proofs.Search.{IsShownFirst, IsShownFirst-strict, in_order, IsPage-one}
+use Rattle.std.specs.List.Sorted.{IsPermutation}
+use Rattle.std.proofs.lemmas.List.Sorted.{IsPermutation-sym}
+use Rattle.definitions.specs.Journal.{HistoryRecord}
+use Rattle.definitions.specs.Calls.{SearchMode, by_prefix, by_substring}
+use Rattle.definitions.specs.Search.{compared, matches_by, hit_bytes, IsPage, IsAnswer}
+use Rattle.definitions.proofs.Among.{Among, Among-from_place, Contains-from_Among, Among-permutation, HaveOwnIds-filter, HaveOwnIds-permutation, one_order}
+use Rattle.definitions.proofs.Search.{IsShownFirst, IsShownFirst-strict, in_order, IsPage-one, starts_with-at, stands_in-at}
 use Rattle.record_rules.specs.Records.{SealedRecord}
 use Rattle.record_rules.proofs.Members.{Has, Has-filter, Has-kept}
 use Rattle.view_rules.specs.Views.{Opening}
@@ -58,8 +56,21 @@ search_one opens records asked page other p q =
 
 -- ---- the plain search
 
-pub plain_of_all : (query : SearchQuery) (entries page : List HistoryRecord) → IsScopedAnswer (record { scope = of_all; unique = false; query = query }) entries page ↔ IsAnswer query entries page
-plain_of_all query entries page = (
-  λ p. record { in_order = p.in_order; matching = p.found; sorted = p.sorted; cut = p.cut },
-  λ p. record { in_order = p.in_order; found = p.matching; sorted = p.sorted; cut = p.cut },
-)
+-- the empty text matches every command
+matches_all : (mode : SearchMode) (command : List ℕ) → matches_by mode [] command ≡ true
+matches_all by_prefix command = starts_with-at [] (compared [] command)
+matches_all by_substring command = stands_in-at [] [] (compared [] command)
+
+all_kept : (passes : HistoryRecord → Bool) (entries : List HistoryRecord) → ((h : HistoryRecord) → passes h ≡ true) → filter passes entries ≡ entries
+all_kept passes [] all = refl
+all_kept passes (h ∷ entries) all = ap (λ (b : Bool). cond b (h ∷ filter passes entries) (filter passes entries)) (all h) ∙ ap (λ (hs : List HistoryRecord). h ∷ hs) (all_kept passes entries all)
+
+abbrev for_all : SearchMode → (offset limit : ℕ) → ScopedQuery
+for_all mode offset limit = record { scope = of_all; unique = false; query = record { mode = mode; text = []; offset = offset; limit = limit } }
+
+pub plain_of_all : (mode : SearchMode) (offset limit : ℕ) (entries page : List HistoryRecord) → IsScopedAnswer (for_all mode offset limit) entries page ↔ IsAnswer offset limit entries page
+plain_of_all mode offset limit entries page =
+    let kept : filter (is_found (for_all mode offset limit)) entries ≡ entries = all_kept (is_found (for_all mode offset limit)) entries (λ h. matches_all mode h.command) in (
+      λ p. record { in_order = p.in_order; all = subst (λ (hs : List HistoryRecord). IsPermutation hs p.in_order) kept p.found; sorted = p.sorted; cut = p.cut },
+      λ p. record { in_order = p.in_order; found = subst (λ (hs : List HistoryRecord). IsPermutation hs p.in_order) (sym kept) p.all; sorted = p.sorted; cut = p.cut },
+    )

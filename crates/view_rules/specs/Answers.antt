@@ -1,6 +1,6 @@
 -- What a search and a list of names show of the views.
-use Rattle.std.specs.Prelude.{◌≡◌, ℕ, ◌+◌, ◌≤◌, List, [], ◌∷◌, ◌++◌, length, drop, Bool, true, not, ◌&&◌, cond, bytes_eq, ◌⊎◌, ◌↔◌}
-use Rattle.std.specs.List.{Contains, filter, sum_by, AllByRecursion}
+use Rattle.std.specs.Prelude.{◌≡◌, ℕ, ◌+◌, List, [], ◌∷◌, length, drop, Bool, true, not, ◌&&◌, cond, bytes_eq, ◌⊎◌, ◌↔◌}
+use Rattle.std.specs.List.{Contains, filter, AllByRecursion}
 use Rattle.std.specs.List.Sorted.{IsPermutation, IsSortedBy}
 use Rattle.std.specs.declared.cmp.Ordering.TheVariants.{Less}
 use Rattle.std.specs.Ordering.{nat_cmp}

@@ -1,8 +1,8 @@
 -- The laws of the views, as statements. Each is the contract of the function of its name.
-use Rattle.std.specs.Prelude.{◌≡◌, ℕ, List, false, ◌↔◌, ◌⊎◌}
+use Rattle.std.specs.Prelude.{◌≡◌, ℕ, List, [], false, ◌↔◌, ◌⊎◌}
 use Rattle.std.specs.declared.cmp.Ordering.TheVariants.{Less}
 use Rattle.std.specs.List.{Contains}
-use Rattle.definitions.specs.Calls.{SearchQuery}
+use Rattle.definitions.specs.Calls.{SearchMode}
 use Rattle.definitions.specs.Journal.{HistoryRecord}
 use Rattle.definitions.specs.Search.{IsAnswer}
 use Rattle.record_rules.specs.Records.{SealedRecord, Entry}
@@ -47,9 +47,11 @@ KeyHasOneValue = (opens : Opening) (records : List SealedRecord) (namespace key 
 abbrev pub NameHasOneValue : Type 0
 NameHasOneValue = (opens : Opening) (records : List SealedRecord) (name a b : List ℕ) → OpensByTag opens → HaveOwnSpots records → ShowsAlias opens records name a → ShowsAlias opens records name b → a ≡ b
 
--- a search of all commands, equal ones not dropped, is the plain one over the same commands
+-- a search of all commands for the empty text, in either mode and equal ones not dropped, is the plain one over the same
+-- commands
 abbrev pub PlainSearchIsOfAll : Type 0
-PlainSearchIsOfAll = (query : SearchQuery) (entries page : List HistoryRecord) → IsScopedAnswer (record { scope = of_all; unique = false; query = query }) entries page ↔ IsAnswer query entries page
+PlainSearchIsOfAll = (mode : SearchMode) (offset limit : ℕ) (entries page : List HistoryRecord)
+    → IsScopedAnswer (record { scope = of_all; unique = false; query = record { mode = mode; text = []; offset = offset; limit = limit } }) entries page ↔ IsAnswer offset limit entries page
 
 -- a search has at most one answer
 abbrev pub SearchHasOneAnswer : Type 0

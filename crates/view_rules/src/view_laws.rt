@@ -35,7 +35,7 @@ pub fn a_name_has_one_value()
     ensures { NameHasOneValue }
 {}
 
-/// A search of all commands, equal ones not dropped, is the plain search over the same commands.
+/// A search of all commands for the empty text, equal ones not dropped, is the plain search over the same commands.
 pub fn a_plain_search_is_of_all()
     ensures { PlainSearchIsOfAll }
 {}

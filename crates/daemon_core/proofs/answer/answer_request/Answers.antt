@@ -1,6 +1,6 @@
 use Rattle.std.proofs.Common.{subst}
-use Rattle.record_model.specs.Seen.{reply_seen}
-use Rattle.daemon_core.specs.Requests.{HasTexts, start_asked, end_asked, query_asked}
+use Rattle.record_model.specs.Seen.{mode_seen, reply_seen}
+use Rattle.daemon_core.specs.Requests.{HasTexts, start_asked, end_asked}
 use Rattle.daemon_core.proofs.Requests.{answers_start, answers_end, answers_search, spelled_as}
 use Rattle.daemon_core.proofs.answer.answer_request.Goals as goal
 
@@ -22,5 +22,5 @@ returns-in-End-clause-answered g c = λ payload spelled.
 pub returns-in-Search-clause-answered : goal.returns-in-Search-clause-answered
 returns-in-Search-clause-answered g c = λ payload spelled.
     answers_search (g.E.Entropy.entropy c.args.rand.now) (g.E.Entropy.entropy c.args.rand.now) (g.C.Clock.clock c.args.clock.now) (g.C.Clock.clock c.args.clock.now) c.args.journal.now
-    c.args.journal.now payload c.args.into.now.items c.write_or_refuse.new.into.items (query_asked c.in-Search.parts) (reply_seen c.search-reply.result) c.search-reply.ensures.answered
-    c.search-reply.ensures.front (spelled_as payload _ _ c.in-Search.is spelled) c.write_or_refuse.ensures.written
+    c.args.journal.now payload c.args.into.now.items c.write_or_refuse.new.into.items (mode_seen c.in-Search.parts.mode) c.in-Search.parts.past.now c.in-Search.parts.offset c.in-Search.parts.limit
+    (reply_seen c.search-reply.result) c.search-reply.ensures.answered c.search-reply.ensures.front (spelled_as payload _ _ c.in-Search.is spelled) c.write_or_refuse.ensures.written

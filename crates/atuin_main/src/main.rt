@@ -11,7 +11,10 @@ mod session;
 mod top;
 mod words;
 
-pub use top::{Ended, run_once};
+pub use top::{
+    DONE, Ended, FAULTY_FRAME, FAULTY_WORDS, NO_MEMORY, SESSION_LIMIT, SINK_FAULT, SOURCE_FAULT,
+    run_once,
+};
 
 #[cfg(test)]
 mod tests;
@@ -19,32 +22,33 @@ mod tests;
 use at_edge::{AbsentDisk, AbsentLink, ReadSource, SystemClock, SystemEntropy, WriteSink};
 use rand::rngs::SysRng;
 use std::process::ExitCode;
+use std::thread::Threads;
 use std::{env, io};
 
-/// The status for want of memory before the command begins.
-const NO_MEMORY: u8 = 11;
-
-/// The words behind the program's name.
-fn words_of(rt: &HostRuntime) -> io::Result<Vec<String>> {
-    env::args(rt)?
-        .skip(1)
-        .collect(rt.alloc())
-        .map_err(io::Error::from)
+fn main(rt: HostRuntime) -> ExitCode {
+    let status = run(&rt, &rt);
+    if status != DONE {
+        let _ = eprintln!(rt; "{}", reason(status));
+    }
+    ExitCode::from(status)
 }
 
-fn main(rt: HostRuntime) -> ExitCode {
-    let Ok(words) = words_of(&rt) else {
-        return ExitCode::from(NO_MEMORY);
+/// The status of the command that the program's words name, over the real outside. The runtime comes twice, since only a
+/// parameter of its own can say that it has threads.
+fn run(rt: &HostRuntime, threads: &(impl Threads + Sync)) -> u8 {
+    let words = match words_of(rt) {
+        Ok(words) => words,
+        Err(error) => return status_without_words(&error),
     };
     let Ok(mut source) = ReadSource::new(rt.alloc(), rt.reader()) else {
-        return ExitCode::from(NO_MEMORY);
+        return NO_MEMORY;
     };
-    let mut sink = WriteSink::new(io::writer(&rt));
-    let mut rand = SystemEntropy::new(SysRng::new(&rt));
-    let mut clock = SystemClock::new(&rt);
+    let mut sink = WriteSink::new(io::writer(rt));
+    let mut rand = SystemEntropy::new(SysRng::new(rt));
+    let mut clock = SystemClock::new(rt);
     let mut link = AbsentLink::new();
     let ended = run_once(
-        &rt,
+        threads,
         rt.alloc(),
         &words,
         b"",
@@ -57,21 +61,36 @@ fn main(rt: HostRuntime) -> ExitCode {
         &mut clock,
         &mut link,
     );
-    if ended.status != 0 {
-        let _ = eprintln!(rt; "{}", reason(ended.status));
+    ended.status
+}
+
+/// The words behind the program's name.
+fn words_of(rt: &HostRuntime) -> io::Result<Vec<String>> {
+    env::args(rt)?
+        .skip(1)
+        .collect(rt.alloc())
+        .map_err(io::Error::from)
+}
+
+/// The status where the words can't be had: there was no memory for them, or one of them isn't UTF-8.
+fn status_without_words(error: &io::Error) -> u8 {
+    match error.kind() {
+        io::ErrorKind::OutOfMemory => NO_MEMORY,
+        _ => FAULTY_WORDS,
     }
-    ExitCode::from(ended.status)
 }
 
 /// What a status says to a person.
 fn reason(status: u8) -> &'static str {
     match status {
-        2 => "usage: FOLDER pipe",
-        4 => "reading standard input failed",
-        5 => "writing standard output failed",
-        11 => "there is not enough memory",
-        13 => "standard input ends inside a frame, or names one of more than 1048576 bytes",
-        14 => "a session has at most 1000000 requests",
+        FAULTY_WORDS => "usage: FOLDER pipe",
+        SOURCE_FAULT => "reading standard input failed",
+        SINK_FAULT => "writing standard output failed",
+        NO_MEMORY => "there is not enough memory",
+        FAULTY_FRAME => {
+            "standard input ends inside a frame, or names one of more than 1048576 bytes"
+        }
+        SESSION_LIMIT => "a session has at most 1000000 requests",
         _ => "the command failed",
     }
 }

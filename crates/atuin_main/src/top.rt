@@ -11,11 +11,25 @@ use at_edge::{Clock, Disk, Entropy, Link, SessionFail, Sink, Source};
 use std::alloc::Global;
 use std::thread::Threads;
 
+/// The source ended between two frames, and each request was answered.
+pub const DONE: u8 = 0;
+/// The words are no command.
+pub const FAULTY_WORDS: u8 = 2;
+/// A read failed.
+pub const SOURCE_FAULT: u8 = 4;
+/// A write failed.
+pub const SINK_FAULT: u8 = 5;
+/// There was no memory before the first byte was read.
+pub const NO_MEMORY: u8 = 11;
+/// A frame is cut or too long.
+pub const FAULTY_FRAME: u8 = 13;
+/// The last request that a session may have was answered.
+pub const SESSION_LIMIT: u8 = 14;
+
 /// How a command ended.
 #[derive(Drop)]
 pub struct Ended<D> {
-    /// 0 done; 2 the words are no command; 4, 5 a fault of the source, of the sink; 11 want of memory; 13 a frame that
-    /// is cut or too long; 14 the last request that a session may have was answered.
+    /// One of the constants above.
     pub status: u8,
     /// The disk that was handed in.
     pub disk: D,
@@ -27,12 +41,12 @@ fn status_of(outcome: Result<at_edge::Served, SessionFail>) -> u8
     ensures { result ≡ status_of outcome }
 {
     match outcome {
-        Ok(_) => 0,
-        Err(SessionFail::SourceFault) => 4,
-        Err(SessionFail::SinkFault) => 5,
-        Err(SessionFail::NoMemory) => 11,
-        Err(SessionFail::CutFrame { .. } | SessionFail::FrameTooLong { .. }) => 13,
-        Err(SessionFail::SessionLimit) => 14,
+        Ok(_) => DONE,
+        Err(SessionFail::SourceFault) => SOURCE_FAULT,
+        Err(SessionFail::SinkFault) => SINK_FAULT,
+        Err(SessionFail::NoMemory) => NO_MEMORY,
+        Err(SessionFail::CutFrame { .. } | SessionFail::FrameTooLong { .. }) => FAULTY_FRAME,
+        Err(SessionFail::SessionLimit) => SESSION_LIMIT,
     }
 }
 
@@ -75,7 +89,7 @@ pub fn run_once<
 {
     if !is_pipe(words) {
         return Ended {
-            status: 2,
+            status: FAULTY_WORDS,
             disk,
             second,
         };

@@ -1,5 +1,5 @@
 //! Whole sessions over the forms in memory, with their exact bytes. The clock begins at 1,700,000,000 seconds and rises
-//! by one second at each reading, random bytes count up from 00 unless a test says otherwise.
+//! by one second at each reading, and the random bytes are 00 to 1d.
 
 use super::*;
 use at_edge::{FixedClock, ListEntropy, MemSink, MemSource};
@@ -34,7 +34,9 @@ const UNKNOWN: &[u8] = b"\x00\x00\x00\x25\x93\x02\x00\xd9\x20fffffffffffffffffff
 const ENDED_ALREADY: &[u8] =
     b"\x00\x00\x00\x25\x93\x02\x02\xd9\x20018bcfe5680070018203040506070809";
 
-const NO_RANDOM_BYTES: &[u8] = b"\x00\x00\x00\x03\x92\x05\x00";
+const NO_RANDOM_BYTES: &[u8] = b"\x00\x00\x00\x03\x92\x05\x01";
+
+const BEGUN_THIRD: &[u8] = b"\x00\x00\x00\x25\x93\x00\x02\xd9\x20018bcfe56fd07a0b8c0d0e0f10111213";
 
 /// Which calls of the outside fail, by their numbers from 1; 0 for none.
 #[derive(Clone, Copy)]
@@ -72,7 +74,10 @@ fn ended<R: AllocGlobal + Threads + Sync>(
     ]?;
     let mut source = MemSource::new(input, vec![in alloc; faults.read]?);
     let mut sink = MemSink::new(alloc, vec![in alloc; faults.write]?);
-    let drawn = Vec::from_slice(alloc, &[0, 1, 2, 3, 4, 5, 6, 7, 8, 9])?;
+    let mut drawn = Vec::new(alloc);
+    for byte in 0..30u8 {
+        drawn.push(byte)?;
+    }
     let mut rand = ListEntropy::new(drawn, vec![in alloc; faults.draw]?);
     let mut clock = FixedClock {
         now: 1_700_000_000_000_000_000,
@@ -184,14 +189,14 @@ fn an_input_that_ends_badly_keeps_its_replies(rt: HostRuntime) -> Result<(), Fai
 fn faults_in_mid_stream_have_their_own_answers(rt: HostRuntime) -> Result<(), Fail> {
     let read = Faults { read: 4, ..NONE };
     let write = Faults { write: 2, ..NONE };
-    let draw = Faults { draw: 1, ..NONE };
+    let draw = Faults { draw: 2, ..NONE };
     check(&rt, &[START, END, SEARCH], read, &[BEGUN], 4)?;
     check(&rt, &[START, END, SEARCH], write, &[BEGUN], 5)?;
     check(
         &rt,
-        &[START, START],
+        &[START, START, START],
         draw,
-        &[NO_RANDOM_BYTES, BEGUN_LATER],
+        &[BEGUN, NO_RANDOM_BYTES, BEGUN_THIRD],
         0,
     )
 }

@@ -6,6 +6,8 @@
 //! a real file, clock and random source do, is trusted.
 #![tactic(auto)]
 
+ghost use Rattle.std.specs.Prelude.{◌≡◌, ◌≢◌};
+
 mod frames;
 mod session;
 mod top;
@@ -21,6 +23,7 @@ mod tests;
 
 use at_edge::{AbsentDisk, AbsentLink, ReadSource, SystemClock, SystemEntropy, WriteSink};
 use rand::rngs::SysRng;
+use std::io::ErrorKind;
 use std::process::ExitCode;
 use std::thread::Threads;
 use std::{env, io};
@@ -38,7 +41,7 @@ fn main(rt: HostRuntime) -> ExitCode {
 fn run(rt: &HostRuntime, threads: &(impl Threads + Sync)) -> u8 {
     let words = match words_of(rt) {
         Ok(words) => words,
-        Err(error) => return status_without_words(&error),
+        Err(error) => return status_without_words(error.kind()),
     };
     let Ok(mut source) = ReadSource::new(rt.alloc(), rt.reader()) else {
         return NO_MEMORY;
@@ -73,9 +76,12 @@ fn words_of(rt: &HostRuntime) -> io::Result<Vec<String>> {
 }
 
 /// The status where the words can't be had: there was no memory for them, or one of them isn't UTF-8.
-fn status_without_words(error: &io::Error) -> u8 {
-    match error.kind() {
-        io::ErrorKind::OutOfMemory => NO_MEMORY,
+fn status_without_words(kind: ErrorKind) -> u8
+    ensures memory { kind ≡ ErrorKind.OutOfMemory → result ≡ 11 }
+    ensures faulty { kind ≢ ErrorKind.OutOfMemory → result ≡ 2 }
+{
+    match kind {
+        ErrorKind::OutOfMemory => NO_MEMORY,
         _ => FAULTY_WORDS,
     }
 }

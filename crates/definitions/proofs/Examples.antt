@@ -247,85 +247,98 @@ behind_command = (
 )
 
 start_spelled : SpellsCall start_ls start_payload
-start_spelled = record { id_fits = tt; numbered = record {
-  header = 0x95 ∷ [];
-  number = 0x01 ∷ [];
-  rest = 0xa2 ∷ 0x6c ∷ 0x73 ∷ 0xa1 ∷ 0x2f ∷ 0xa2 ∷ 0x73 ∷ 0x31 ∷ 0xa3 ∷ 0x68 ∷ 0x3a ∷ 0x75 ∷ [];
-  all_kinds = start_kinds;
-  kinds_are = refl;
-  is_header = (fixarray, omega arith, refl);
-  is_number = small_number 1 (omega arith);
-  are_arguments = (0xa2 ∷ 0x6c ∷ 0x73 ∷ [], 0xa1 ∷ 0x2f ∷ 0xa2 ∷ 0x73 ∷ 0x31 ∷ 0xa3 ∷ 0x68 ∷ 0x3a ∷ 0x75 ∷ [], tt, short_text (codes "ls") ls_is_utf8 (omega arith), behind_command, refl);
-  are = refl;
-} }
+start_spelled = record {
+  id_fits = tt;
+  numbered = record {
+    header = 0x95 ∷ [];
+    number = 0x01 ∷ [];
+    rest = 0xa2 ∷ 0x6c ∷ 0x73 ∷ 0xa1 ∷ 0x2f ∷ 0xa2 ∷ 0x73 ∷ 0x31 ∷ 0xa3 ∷ 0x68 ∷ 0x3a ∷ 0x75 ∷ [];
+    all_kinds = start_kinds;
+    kinds_are = refl;
+    is_header = (fixarray, omega arith, refl);
+    is_number = small_number 1 (omega arith);
+    are_arguments = (0xa2 ∷ 0x6c ∷ 0x73 ∷ [], 0xa1 ∷ 0x2f ∷ 0xa2 ∷ 0x73 ∷ 0x31 ∷ 0xa3 ∷ 0x68 ∷ 0x3a ∷ 0x75 ∷ [], tt, short_text (codes "ls") ls_is_utf8 (omega arith), behind_command, refl);
+    are = refl;
+  };
+}
 
 start_spelled_wide : SpellsCall start_ls (0xdc ∷ 0x00 ∷ 0x05 ∷ 0xd0 ∷ 0x01 ∷ 0xd9 ∷ 0x02 ∷ 0x6c ∷ 0x73 ∷ 0xa1 ∷ 0x2f ∷ 0xa2 ∷ 0x73 ∷ 0x31 ∷ 0xa3 ∷ 0x68 ∷ 0x3a ∷ 0x75 ∷ [])
-start_spelled_wide = record { id_fits = tt; numbered = record {
-  header = 0xdc ∷ 0x00 ∷ 0x05 ∷ [];
-  number = 0xd0 ∷ 0x01 ∷ [];
-  rest = 0xd9 ∷ 0x02 ∷ 0x6c ∷ 0x73 ∷ 0xa1 ∷ 0x2f ∷ 0xa2 ∷ 0x73 ∷ 0x31 ∷ 0xa3 ∷ 0x68 ∷ 0x3a ∷ 0x75 ∷ [];
-  all_kinds = start_kinds;
-  kinds_are = refl;
-  is_header = (array_16, omega arith, refl);
-  is_number = (int_8, omega arith, refl);
-  are_arguments = (0xd9 ∷ 0x02 ∷ 0x6c ∷ 0x73 ∷ [], 0xa1 ∷ 0x2f ∷ 0xa2 ∷ 0x73 ∷ 0x31 ∷ 0xa3 ∷ 0x68 ∷ 0x3a ∷ 0x75 ∷ [], tt, record { form = str_8; fits = omega arith; utf8 = ls_is_utf8; are = refl }, behind_command, refl);
-  are = refl;
-} }
+start_spelled_wide = record {
+  id_fits = tt;
+  numbered = record {
+    header = 0xdc ∷ 0x00 ∷ 0x05 ∷ [];
+    number = 0xd0 ∷ 0x01 ∷ [];
+    rest = 0xd9 ∷ 0x02 ∷ 0x6c ∷ 0x73 ∷ 0xa1 ∷ 0x2f ∷ 0xa2 ∷ 0x73 ∷ 0x31 ∷ 0xa3 ∷ 0x68 ∷ 0x3a ∷ 0x75 ∷ [];
+    all_kinds = start_kinds;
+    kinds_are = refl;
+    is_header = (array_16, omega arith, refl);
+    is_number = (int_8, omega arith, refl);
+    are_arguments = (0xd9 ∷ 0x02 ∷ 0x6c ∷ 0x73 ∷ [], 0xa1 ∷ 0x2f ∷ 0xa2 ∷ 0x73 ∷ 0x31 ∷ 0xa3 ∷ 0x68 ∷ 0x3a ∷ 0x75 ∷ [], tt, record { form = str_8; fits = omega arith; utf8 = ls_is_utf8; are = refl }, behind_command, refl);
+    are = refl;
+  };
+}
 
 -- the digits of an End
 digits_spelled : SpellsText (id_text first_id) (0xd9 ∷ 0x20 ∷ first_digits)
 digits_spelled = subst (λ (text : List ℕ). SpellsText text (0xd9 ∷ 0x20 ∷ first_digits)) digits_are_of_id (record { form = str_8; fits = omega arith; utf8 = digits_are_utf8; are = refl })
 
 end_spelled_so : (duration exit : ℤ) (a b : List ℕ) → FitsSigned w64 duration → FitsSigned w64 exit → SpellsInteger duration a → SpellsInteger exit b → SpellsCall (end_call first_id duration exit) (0x94 ∷ 0x02 ∷ 0xd9 ∷ 0x20 ∷ (first_digits ++ (a ++ (b ++ []))))
-end_spelled_so duration exit a b d e s t = record { id_fits = omega arith; numbered = record {
-  header = 0x94 ∷ [];
-  number = 0x02 ∷ [];
-  rest = 0xd9 ∷ 0x20 ∷ (first_digits ++ (a ++ (b ++ [])));
-  all_kinds = end_kinds;
-  kinds_are = refl;
-  is_header = (fixarray, omega arith, refl);
-  is_number = small_number 2 (omega arith);
-  are_arguments = (0xd9 ∷ 0x20 ∷ first_digits, a ++ (b ++ []), (first_id, omega arith, refl), digits_spelled, (a, b ++ [], d, s, (b, [], e, t, refl, refl), refl), refl);
-  are = refl;
-} }
+end_spelled_so duration exit a b d e s t = record {
+  id_fits = omega arith;
+  numbered = record {
+    header = 0x94 ∷ [];
+    number = 0x02 ∷ [];
+    rest = 0xd9 ∷ 0x20 ∷ (first_digits ++ (a ++ (b ++ [])));
+    all_kinds = end_kinds;
+    kinds_are = refl;
+    is_header = (fixarray, omega arith, refl);
+    is_number = small_number 2 (omega arith);
+    are_arguments = (0xd9 ∷ 0x20 ∷ first_digits, a ++ (b ++ []), (first_id, omega arith, refl), digits_spelled, (a, b ++ [], d, s, (b, [], e, t, refl, refl), refl), refl);
+    are = refl;
+  };
+}
 
 -- a Search: its mode, the text that is read past, its offset and limit
 search_spelled_so : (mode : SearchMode) (past : List ℕ) (first most : ℕ) (text offset limit : List ℕ) → mode_number mode ≤ 1 → first ≤ 4294967295 → 1 ≤ most → most ≤ 1000 → SpellsText past text → SpellsInteger (pos first) offset → SpellsInteger (pos most) limit
     → SpellsCall (search_call mode past first most) (0x98 ∷ 0x04 ∷ (integer_bytes positive_fixint (pos (mode_number mode)) ++ (0x00 ∷ (text ++ (0xa0 ∷ 0x00 ∷ (offset ++ (limit ++ [])))))))
-search_spelled_so mode past first most text offset limit mode_fits far least above t o l = record { id_fits = tt; numbered = record {
-  header = 0x98 ∷ [];
-  number = 0x04 ∷ [];
-  rest = integer_bytes positive_fixint (pos (mode_number mode)) ++ (0x00 ∷ (text ++ (0xa0 ∷ 0x00 ∷ (offset ++ (limit ++ [])))));
-  all_kinds = plain_search_kinds;
-  kinds_are = refl;
-  is_header = (fixarray, omega arith, refl);
-  is_number = small_number 4 (omega arith);
-  are_arguments = (
-    integer_bytes positive_fixint (pos (mode_number mode)),
-    0x00 ∷ (text ++ (0xa0 ∷ 0x00 ∷ (offset ++ (limit ++ [])))),
-    (omega arith, mode_fits),
-    small_number (mode_number mode) (omega (arith, mode_fits)),
-    (
-      0x00 ∷ [],
-      text ++ (0xa0 ∷ 0x00 ∷ (offset ++ (limit ++ []))),
-      (omega arith, omega arith),
-      small_number 0 (omega arith),
+search_spelled_so mode past first most text offset limit mode_fits far least above t o l = record {
+  id_fits = tt;
+  numbered = record {
+    header = 0x98 ∷ [];
+    number = 0x04 ∷ [];
+    rest = integer_bytes positive_fixint (pos (mode_number mode)) ++ (0x00 ∷ (text ++ (0xa0 ∷ 0x00 ∷ (offset ++ (limit ++ [])))));
+    all_kinds = plain_search_kinds;
+    kinds_are = refl;
+    is_header = (fixarray, omega arith, refl);
+    is_number = small_number 4 (omega arith);
+    are_arguments = (
+      integer_bytes positive_fixint (pos (mode_number mode)),
+      0x00 ∷ (text ++ (0xa0 ∷ 0x00 ∷ (offset ++ (limit ++ [])))),
+      (omega arith, mode_fits),
+      small_number (mode_number mode) (omega (arith, mode_fits)),
       (
-        text,
-        0xa0 ∷ 0x00 ∷ (offset ++ (limit ++ [])),
-        tt,
-        t,
+        0x00 ∷ [],
+        text ++ (0xa0 ∷ 0x00 ∷ (offset ++ (limit ++ []))),
+        (omega arith, omega arith),
+        small_number 0 (omega arith),
         (
-          0xa0 ∷ [],
-          0x00 ∷ (offset ++ (limit ++ [])),
-          refl,
-          short_text [] IsUtf8-nil (omega arith),
+          text,
+          0xa0 ∷ 0x00 ∷ (offset ++ (limit ++ [])),
+          tt,
+          t,
           (
-            0x00 ∷ [],
-            offset ++ (limit ++ []),
-            (omega arith, omega arith),
-            small_number 0 (omega arith),
-            (offset, limit ++ [], (omega arith, far), o, (limit, [], (least, above), l, refl, refl), refl),
+            0xa0 ∷ [],
+            0x00 ∷ (offset ++ (limit ++ [])),
+            refl,
+            short_text [] IsUtf8-nil (omega arith),
+            (
+              0x00 ∷ [],
+              offset ++ (limit ++ []),
+              (omega arith, omega arith),
+              small_number 0 (omega arith),
+              (offset, limit ++ [], (omega arith, far), o, (limit, [], (least, above), l, refl, refl), refl),
+              refl,
+            ),
             refl,
           ),
           refl,
@@ -333,11 +346,10 @@ search_spelled_so mode past first most text offset limit mode_fits far least abo
         refl,
       ),
       refl,
-    ),
-    refl,
-  );
-  are = refl;
-} }
+    );
+    are = refl;
+  };
+}
 
 end_spelled : SpellsCall end_ls end_payload
 end_spelled = end_spelled_so (pos 1000) (pos 0) (0xcd ∷ 0x03 ∷ 0xe8 ∷ []) (0x00 ∷ []) (omega arith) (omega arith) (uint_16, omega arith, refl) (positive_fixint, omega arith, refl)

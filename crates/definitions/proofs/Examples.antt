@@ -16,10 +16,10 @@ use Rattle.definitions.specs.Ids.{id_text, made_id}
 use Rattle.definitions.specs.Calls.{SearchMode, by_prefix, by_substring, Argument, PlainCall, start_call, end_call, search_call, mode_number, call_number, arguments, a_text, any_text, start_kinds, end_kinds, plain_search_kinds, SpellsArguments, SpellsCall, plain_kinds, WrongAt}
 use Rattle.definitions.specs.Reading.{array_at, integer_at, text_head_at, text_at, argument_at, arguments_at, last_arguments_at, call_at}
 use Rattle.definitions.specs.Journal.{StartedRecord, HistoryRecord, JournalEntry, begun, ended, ended_in, was_begun, has_ended, finished, SoundJournal}
-use Rattle.definitions.specs.Search.{is_shown_before, hit_bytes, IsPage, FitsPage, IsAnswer}
+use Rattle.definitions.specs.Search.{is_shown_before, hit_bytes, IsAnswer}
 use Rattle.definitions.specs.Replies.{PlainAnswer, began_id, stored_index, hit_list, unknown_id, random_fault, id_taken, no_memory, bad_request, PlainReply, plain_reply_bytes}
 use Rattle.definitions.specs.Step.{Used, used_nothing, read_and_drew, read_clock, PlainRefuses, Answers, PlainStep, unread, start_failed, start_taken, start_done, start_short, end_unbegun, end_again, end_done, end_short, searched, search_short}
-use Rattle.definitions.specs.Examples.{WorkedIntegers, WorkedTexts, WorkedArrays, WorkedNoItems, WorkedFrames, WorkedStreams, WorkedIds, first_time, first_id, first_digits, ten_bytes, ls, start_ls, start_payload, end_ls, end_payload, all_hits, all_payload, third_hit, last_hits, WorkedCalls, WorkedFaults, ls_ended, pwd, pwd_ended, one_running, WorkedJournals, hit_at, three_ended, WorkedMatches, WorkedSearches, WorkedReplies, at_front, used_by_start, used_by_end, nothing_used, three_replies, WorkedSteps, WorkedWants, WorkedRuns}
+use Rattle.definitions.specs.Examples.{WorkedIntegers, WorkedTexts, WorkedArrays, WorkedNoItems, WorkedFrames, WorkedStreams, WorkedIds, first_time, first_id, first_digits, ten_bytes, ls, start_ls, start_payload, end_ls, end_payload, all_hits, all_payload, WorkedCalls, WorkedFaults, ls_ended, pwd, pwd_ended, one_running, WorkedJournals, hit_at, three_ended, WorkedMatches, WorkedSearches, WorkedReplies, at_front, used_by_start, used_by_end, nothing_used, three_replies, WorkedSteps, WorkedWants, WorkedRuns}
 use Rattle.definitions.proofs.Search.{whole_page}
 use Rattle.definitions.proofs.Among.{Among-from_place}
 use Rattle.definitions.proofs.Calls.{call_read, one_call, call_never_wrong}

@@ -1,5 +1,5 @@
 -- Worked examples: the bytes of one command that ended, and items in shorter and wider spellings.
-use Rattle.std.specs.Prelude.{◌≡◌, ℕ, pos, negsuc, List, [], ◌∷◌, ◌++◌, length, codes, Some, None}
+use Rattle.std.specs.Prelude.{◌≡◌, ℕ, pos, negsuc, List, [], ◌∷◌, ◌++◌, length, codes, Some}
 use Rattle.std.specs.Str.{IsUtf8}
 use Rattle.definitions.specs.Journal.{HistoryRecord}
 use Rattle.definitions.specs.Spelling.{SpellsInteger, TextFits, written_integer}

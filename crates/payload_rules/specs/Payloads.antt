@@ -1,6 +1,5 @@
 -- What a record holds once it is opened, and which bytes spell it. Ids have 128 bits, times are nanoseconds since 1970.
 use Rattle.std.specs.Prelude.{◌≡◌, ℕ, ◌<◌, ◌^◌, pos, FitsSigned, List, [], ◌∷◌, ◌++◌, length, codes, Option, Some, None}
-use Rattle.std.specs.Str.{IsUtf8}
 use Rattle.std.specs.Int.{w8, w16, w64}
 use Rattle.definitions.specs.Spelling.{marked, TextFits, written_integer, written_text, written_array}
 use Rattle.definitions.specs.Ids.{id_text}

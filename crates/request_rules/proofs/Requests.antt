@@ -1,9 +1,9 @@
 -- A payload spells one call, or is wrong at one place: what holds of each table of calls, and of each call its arguments.
-use Rattle.std.proofs.Common.{◌≡◌, ℕ, pos, List, Ok, subst, inl, inr}
+use Rattle.std.proofs.Common.{ℕ, List, subst, inl, inr}
 use Rattle.definitions.specs.Calls.{Argument, SpellsNumbered}
 use Rattle.definitions.proofs.Numbered.{numbered_spelled, wrong_at, numbered_or_wrong, numbered_read, numbered_one, wrong_read, one_place, never_both}
 use Rattle.step_rules.specs.Calls.{Call}
-use Rattle.request_rules.specs.Requests.{request_number, call_kinds, HasArguments, SpellsRequest}
+use Rattle.request_rules.specs.Requests.{request_number, call_kinds, SpellsRequest}
 use Rattle.request_rules.specs.Laws.{SpellsOneCall, NeverBoth, WrongAtOnePlace, CallOrPlace, ReadingFindsCall, ReadingFindsPlace}
 use Rattle.request_rules.proofs.Arguments.{most_kinds, call_is, calls_one}
 

@@ -1,12 +1,12 @@
 -- The examples, computed.
-use Rattle.std.proofs.Common.{◌≡◌, ℕ, zero, suc, Bool, true, false, cond, List, [], ◌∷◌, length, drop, get_or, append-nil, Some, None, refl, sym, ap, subst, ◌∙◌, arith, inl, inr}
+use Rattle.std.proofs.Common.{◌≡◌, ℕ, zero, suc, Bool, true, false, cond, List, [], ◌∷◌, length, drop, get_or, Some, None, refl, sym, ap, subst, ◌∙◌, arith, inl, inr}
 use Rattle.std.specs.Prelude.{codes}
 use Rattle.std.specs.List.{Contains}
 use Rattle.std.specs.List.Sorted.{IsPermutation, IsSortedBy}
 use Rattle.std.proofs.lemmas.List.Sorted.{IsPermutation-refl}
 use Rattle.std.specs.declared.cmp.Ordering.TheVariants.{Less}
 use Rattle.definitions.specs.Journal.{HistoryRecord}
-use Rattle.definitions.specs.Search.{is_shown_before, hit_bytes, IsPage, FitsPage}
+use Rattle.definitions.specs.Search.{is_shown_before, hit_bytes, IsPage}
 use Rattle.definitions.proofs.Search.{whole_page}
 use Rattle.definitions.proofs.Among.{HaveOwnIds-none}
 use Rattle.record_rules.specs.Records.{SealedRecord}

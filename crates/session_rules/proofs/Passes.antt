@@ -7,16 +7,16 @@ use Rattle.std.proofs.lemmas.List.{append-nil, append_cancel_left}
 use Rattle.std.proofs.lemmas.List.Elements.{filter-append}
 use Rattle.record_rules.specs.Records.{Entry}
 use Rattle.session_rules.specs.Sessions.{SessionReply}
-use Rattle.session_rules.specs.Passes.{TurnItem, Pass, failures, Begins, PassMoves, longer, joined, tells_disk_fault, disk_faults, TurnsFor, TurnsOf}
+use Rattle.session_rules.specs.Passes.{TurnItem, Pass, failures, SeenBefore, PassMoves, longer, joined, tells_disk_fault, disk_faults, TurnsFor, TurnsOf}
 use Rattle.session_rules.specs.Laws.{Joins}
 
 failures-append : (one two : List TurnItem) → failures (one ++ two) ≡ failures one + failures two
 failures-append one two = ap length (filter-append (λ (turn : TurnItem). turn.failed) one two) ∙ length-append (filter (λ (turn : TurnItem). turn.failed) one) (filter (λ (turn : TurnItem). turn.failed) two)
 
-begins-itself : (entries : List Entry) → Begins entries entries
+begins-itself : (entries : List Entry) → SeenBefore entries entries
 begins-itself entries = ([], sym (append-nil entries))
 
-begins-then : (one two three : List Entry) → Begins one two → Begins two three → Begins one three
+begins-then : (one two three : List Entry) → SeenBefore one two → SeenBefore two three → SeenBefore one three
 begins-then one two three first second = (first.0 ++ second.0, second.1 ∙ ap (λ entries. entries ++ second.0) first.1 ∙ append_assoc one first.0 second.0)
 
 pub stays : (pass : Pass) → PassMoves pass pass
@@ -87,8 +87,8 @@ told_are_counted old new replies moves turns =
 -- ---- joining
 
 -- the one that is taken begins with both
-one_begins : (one other : List Entry) → Begins one other ⊎ Begins other one → Begins one (longer one other)
-one_begins one other (inl front) = elim (nat_lt (length one) (length other)) as (λ b. Begins one (cond b other one)) [
+one_begins : (one other : List Entry) → SeenBefore one other ⊎ SeenBefore other one → SeenBefore one (longer one other)
+one_begins one other (inl front) = elim (nat_lt (length one) (length other)) as (λ b. SeenBefore one (cond b other one)) [
   | true ↦ front
   | false ↦ begins-itself one
 ]
@@ -96,26 +96,26 @@ one_begins one other (inr front) =
     let all : length one ≡ length other + length front.0 = ap length front.1 ∙ length-append other front.0 in
     elim (cases_Bool (nat_lt (length one) (length other))) [
       | inl less ↦ let below = ltb-true (length one) (length other) less in absurd (omega (arith, all, below))
-      | inr not_less ↦ subst (λ b. Begins one (cond b other one)) (sym not_less) (begins-itself one)
+      | inr not_less ↦ subst (λ b. SeenBefore one (cond b other one)) (sym not_less) (begins-itself one)
     ]
 
-other_begins : (one other : List Entry) → Begins one other ⊎ Begins other one → Begins other (longer one other)
-other_begins one other (inr front) = elim (nat_lt (length one) (length other)) as (λ b. Begins other (cond b other one)) [
+other_begins : (one other : List Entry) → SeenBefore one other ⊎ SeenBefore other one → SeenBefore other (longer one other)
+other_begins one other (inr front) = elim (nat_lt (length one) (length other)) as (λ b. SeenBefore other (cond b other one)) [
   | true ↦ begins-itself other
   | false ↦ front
 ]
 other_begins one other (inl front) = at_end front.0 front.1 where
-  at_end : (since : List Entry) → other ≡ one ++ since → Begins other (longer one other)
-  at_end [] is = let same : other ≡ one = is ∙ append-nil one in elim (nat_lt (length one) (length other)) as (λ b. Begins other (cond b other one)) [
+  at_end : (since : List Entry) → other ≡ one ++ since → SeenBefore other (longer one other)
+  at_end [] is = let same : other ≡ one = is ∙ append-nil one in elim (nat_lt (length one) (length other)) as (λ b. SeenBefore other (cond b other one)) [
     | true ↦ begins-itself other
     | false ↦ ([], sym same ∙ sym (append-nil other))
   ]
   at_end (entry ∷ since) is =
       let all : length other ≡ length one + length (entry ∷ since) = ap length is ∙ length-append one (entry ∷ since) in
       let below = lt-ltb (length one) (length other) (omega (arith, all)) in
-      subst (λ b. Begins other (cond b other one)) (sym below) (begins-itself other)
+      subst (λ b. SeenBefore other (cond b other one)) (sym below) (begins-itself other)
 
-pub join_keeps_both : (pass other : Pass) → Begins pass.seen other.seen ⊎ Begins other.seen pass.seen → Joins pass other (joined pass other)
+pub join_keeps_both : (pass other : Pass) → SeenBefore pass.seen other.seen ⊎ SeenBefore other.seen pass.seen → Joins pass other (joined pass other)
 join_keeps_both pass other one_front =
     let counted : pass.faults ≤ max pass.faults other.faults = le-max_left pass.faults other.faults in
     record {

@@ -13,7 +13,7 @@ use Rattle.step_rules.specs.Step.{Draft, start_draft, record_draft, Unknown, end
 use Rattle.step_rules.specs.Turn.{UsedSome, used_clock, used_bytes}
 use Rattle.request_rules.specs.Requests.{call_kinds}
 use Rattle.request_rules.proofs.Requests.{one_request_place, call_never_wrong}
-use Rattle.session_rules.specs.Sessions.{Asked, a_call, a_page, SessionAnswer, to_call, to_page, SessionReply, Told, told_step, told_disk_fault, told_random_fault, told_no_memory, told_no_memory_to_read, told_bad, told_no_memory_for_bad, told_page, told_page_refused, told_page_disk_fault, told_page_no_memory, Serves, Session, tells_random_fault, random_faults, call_reply}
+use Rattle.session_rules.specs.Sessions.{Asked, a_call, a_page, SessionAnswer, to_call, to_page, SessionReply, Told, told_step, told_disk_fault, told_random_fault, told_no_memory, told_no_memory_to_read, told_bad, told_no_memory_for_bad, told_page, told_page_refused, told_page_disk_fault, told_page_no_memory, Serves, Session, tells_random_fault, told_random_faults, call_reply}
 use Rattle.session_rules.specs.Reading.{Reads, ReadsEach}
 use Rattle.session_rules.specs.Laws.{TellsBad}
 use Rattle.session_rules.proofs.Sessions.{told_at}
@@ -120,21 +120,21 @@ module _ (store : KeyedStore) (journal : List Entry) (caller : Caller) (asked : 
   told_draws (told_page_disk_fault _ _ _ u is _) = same_count 0 _ (none_used u) is refl
   told_draws (told_page_no_memory _ _ _ u is _) = same_count 0 _ (none_used u) is refl
 
-counted : (reply : SessionReply) (replies : List SessionReply) → random_faults (reply ∷ replies) ≡ count (tells_random_fault reply.answer) + random_faults replies
+counted : (reply : SessionReply) (replies : List SessionReply) → told_random_faults (reply ∷ replies) ≡ count (tells_random_fault reply.answer) + told_random_faults replies
 unfolding count
-counted reply replies = elim (tells_random_fault reply.answer) as (λ b. length (cond b (reply ∷ filter (λ r. tells_random_fault r.answer) replies) (filter (λ r. tells_random_fault r.answer) replies)) ≡ count b + random_faults replies) [
+counted reply replies = elim (tells_random_fault reply.answer) as (λ b. length (cond b (reply ∷ filter (λ r. tells_random_fault r.answer) replies) (filter (λ r. tells_random_fault r.answer) replies)) ≡ count b + told_random_faults replies) [
   | true ↦ omega arith
   | false ↦ omega arith
 ]
 
 module _ (store : KeyedStore) (journal : List Entry) (number : ℕ) where
-  pub faults_drawn : (from call : ℕ) (asked : List Asked) (used : Used) (replies : List SessionReply) (commits : List Entry) → Serves store journal number from call asked used replies commits → random_faults replies ≡ used.faults
+  pub faults_drawn : (from call : ℕ) (asked : List Asked) (used : Used) (replies : List SessionReply) (commits : List Entry) → Serves store journal number from call asked used replies commits → told_random_faults replies ≡ used.faults
   faults_drawn from call [] used [] commits serves = sym (ap (λ (u : Used). u.faults) serves.0)
   faults_drawn from call (a ∷ more) used (r ∷ replies) commits serves =
       let one = serves.0 in
       let later = faults_drawn r.front (call + 1) more one.used_later replies one.commits_later serves.1 in
       let here = told_draws store journal _ a r.front one.used_here r.answer one.commit one.told in
-      counted r replies ∙ ap (λ n. n + random_faults replies) (sym here) ∙ ap (λ n. one.used_here.faults + n) later ∙ sym (ap (λ (u : Used). u.faults) one.used_is)
+      counted r replies ∙ ap (λ n. n + told_random_faults replies) (sym here) ∙ ap (λ n. one.used_here.faults + n) later ∙ sym (ap (λ (u : Used). u.faults) one.used_is)
   faults_drawn from call [] used (r ∷ replies) commits serves = absurd serves
   faults_drawn from call (a ∷ more) used [] commits serves = absurd serves
 

@@ -12,7 +12,7 @@ use Rattle.step_rules.specs.Store.{KeyedStore}
 use Rattle.step_rules.specs.PageTurns.{took, page_refused, page_faulted, page_no_memory}
 use Rattle.step_rules.specs.Examples.{second_time, ls_call, two_records}
 use Rattle.session_rules.specs.Bytes.{reply_bytes}
-use Rattle.session_rules.specs.Sessions.{a_call, no_call, a_page, to_call, to_page, caller_of, Session, random_faults}
+use Rattle.session_rules.specs.Sessions.{a_call, no_call, a_page, to_call, to_page, caller_of, Session, told_random_faults}
 use Rattle.session_rules.specs.Reading.{Reads, ReadsEach}
 use Rattle.session_rules.specs.Passes.{TurnItem, Pass, mine, seen_more, KnowsItself, failures, PassMoves, split_off, joined, disk_faults, TurnsOf}
 
@@ -143,7 +143,7 @@ pub record WorkedPass : Type 0 where
   -- one of its turns failed, and one reply tells of it; another tells of a fault of the random source
   pub one_failed : failures (a_turn ∷ another_turn ∷ []) ≡ 1
   pub one_told : disk_faults (record { front = 3; answer = to_call (refused disk_fault) } ∷ record { front = 3; answer = to_call (refused random_fault) } ∷ record { front = 3; answer = to_page (took 0) } ∷ []) ≡ 1
-  pub one_undrawn : random_faults (record { front = 3; answer = to_call (refused disk_fault) } ∷ record { front = 3; answer = to_call (refused random_fault) } ∷ record { front = 3; answer = to_page (took 0) } ∷ []) ≡ 1
+  pub one_undrawn : told_random_faults (record { front = 3; answer = to_call (refused disk_fault) } ∷ record { front = 3; answer = to_call (refused random_fault) } ∷ record { front = 3; answer = to_page (took 0) } ∷ []) ≡ 1
   -- with one more entry seen, one more number known and a failed turn more, it has counted one fault more at least
   pub moved : PassMoves (pass_at (by_second ∷ [])) (record { number = 1; seen = by_second ∷ by_first ∷ []; known = 3; turns = a_turn ∷ another_turn ∷ []; faults = 5; fixed = 0 ∷ 1 ∷ [] })
   pub uncounted : PassMoves (pass_at []) (record (pass_at []) { turns = a_turn ∷ another_turn ∷ [] }) → ⊥

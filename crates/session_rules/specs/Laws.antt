@@ -11,9 +11,9 @@ use Rattle.step_rules.specs.Store.{KeyedStore}
 use Rattle.step_rules.specs.Turn.{Turn}
 use Rattle.step_rules.specs.PageTurns.{PageAnswer, PageTurn}
 use Rattle.request_rules.specs.Requests.{call_kinds}
-use Rattle.session_rules.specs.Sessions.{Asked, a_call, a_page, SessionAnswer, to_call, SessionReply, call_reply, page_reply, caller_of, Told, is_of, Session, random_faults}
+use Rattle.session_rules.specs.Sessions.{Asked, a_call, a_page, SessionAnswer, to_call, SessionReply, call_reply, page_reply, caller_of, Told, is_of, Session, told_random_faults}
 use Rattle.session_rules.specs.Reading.{Reads, ReadsEach}
-use Rattle.session_rules.specs.Passes.{TurnItem, Pass, mine, seen_more, KnowsItself, Begins, PassMoves, split_off, joined, disk_faults, TurnsOf}
+use Rattle.session_rules.specs.Passes.{TurnItem, Pass, mine, seen_more, KnowsItself, SeenBefore, PassMoves, split_off, joined, disk_faults, TurnsOf}
 
 -- each request gets one reply
 abbrev pub EachIsAnswered : Type 0
@@ -61,7 +61,7 @@ SessionBegins = (store : KeyedStore) (seen : List Entry) (number : ℕ) → Sess
 
 -- The replies that tell of a fault of the random source are as many as the draws that failed, so no such reply comes without one.
 abbrev pub RandomFaultsAreDraws : Type 0
-RandomFaultsAreDraws = (store : KeyedStore) (seen : List Entry) (number : ℕ) (asked : List Asked) (used : Used) (replies : List SessionReply) (journal : List Entry) → Session store seen number asked used replies journal → random_faults replies ≡ used.faults
+RandomFaultsAreDraws = (store : KeyedStore) (seen : List Entry) (number : ℕ) (asked : List Asked) (used : Used) (replies : List SessionReply) (journal : List Entry) → Session store seen number asked used replies journal → told_random_faults replies ≡ used.faults
 
 -- the turns of two runs of replies, one after the other, are those of both
 abbrev pub TurnsFollow : Type 0
@@ -102,12 +102,12 @@ SplitStartsAnew = (pass : Pass) (number : ℕ) → All (λ entry. is_of number e
 -- counted is lost.
 pub record Joins (pass other new : Pass) : Type 0 where
   pub moves : PassMoves pass new
-  pub seen : Begins other.seen new.seen
+  pub seen : SeenBefore other.seen new.seen
   pub known : other.known ≤ new.known
   pub faults : other.faults ≤ new.faults
 
 abbrev pub JoinKeepsBoth : Type 0
-JoinKeepsBoth = (pass other : Pass) → Begins pass.seen other.seen ⊎ Begins other.seen pass.seen → Joins pass other (joined pass other)
+JoinKeepsBoth = (pass other : Pass) → SeenBefore pass.seen other.seen ⊎ SeenBefore other.seen pass.seen → Joins pass other (joined pass other)
 
 -- a payload of bytes is read as one request, and as no other
 pub record IsReadAs (payload : List ℕ) : Type 0 where

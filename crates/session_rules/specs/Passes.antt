@@ -37,16 +37,16 @@ KnowsItself pass = pass.number ≤ pass.known
 abbrev pub failures : List TurnItem → ℕ
 failures turns = length (filter (λ turn. turn.failed) turns)
 
--- the list begins with the other one
-abbrev pub Begins : List Entry → List Entry → Type 0
-Begins front entries = (since : List Entry) × (entries ≡ front ++ since)
+-- what was seen before is the front of what is seen now
+abbrev pub SeenBefore : List Entry → List Entry → Type 0
+SeenBefore before now = (since : List Entry) × (now ≡ before ++ since)
 
 -- What any call with a pass leaves of it: its number and the fixed part. It has seen no less, knows of no fewer numbers, and its turns go on.
 -- Of the turns since then no more failed than faults were counted.
 pub record PassMoves (old new : Pass) : Type 0 where
   pub number : new.number ≡ old.number
   pub fixed : new.fixed ≡ old.fixed
-  pub seen : Begins old.seen new.seen
+  pub seen : SeenBefore old.seen new.seen
   pub known : old.known ≤ new.known
   pub turns_since : List TurnItem
   pub turns : new.turns ≡ old.turns ++ turns_since

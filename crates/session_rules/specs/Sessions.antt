@@ -101,5 +101,5 @@ abbrev pub tells_random_fault : SessionAnswer → Bool
 tells_random_fault (to_call (refused random_fault)) = true
 tells_random_fault _ = false
 
-abbrev pub random_faults : List SessionReply → ℕ
-random_faults replies = length (filter (λ reply. tells_random_fault reply.answer) replies)
+abbrev pub told_random_faults : List SessionReply → ℕ
+told_random_faults replies = length (filter (λ reply. tells_random_fault reply.answer) replies)

@@ -1,26 +1,33 @@
 -- The examples, computed.
-use Rattle.std.proofs.Common.{◌≡◌, ℕ, ◌+◌, ◌≤◌, List, [], ◌∷◌, length, true, false, refl, sym, ap, subst, arith}
-use Rattle.std.specs.Prelude.{codes}
+use Rattle.std.proofs.Common.{◌≡◌, ◌⊎◌, ℕ, ◌+◌, ◌≤◌, List, [], ◌∷◌, length, true, false, inl, inr, refl, sym, ap, subst, arith}
+use Rattle.std.specs.Prelude.{codes, All}
 use Rattle.std.proofs.lemmas.Bool.{true≢false}
 use Rattle.std.proofs.lemmas.List.{append_cancel_left}
+use Rattle.std.proofs.lemmas.List.Elements.{All-from_recursion}
 use Rattle.definitions.specs.Ids.{id_text, made_id}
 use Rattle.definitions.specs.Step.{Used, used_nothing, read_clock, read_and_drew, read_and_failed}
 use Rattle.definitions.proofs.Runs.{then_used-nothing}
 use Rattle.definitions.specs.Examples.{first_time, ten_bytes}
 use Rattle.record_rules.specs.Records.{Entry}
-use Rattle.record_rules.specs.Growth.{PageGap}
+use Rattle.record_rules.specs.Growth.{PageGap, taken_entry}
 use Rattle.record_rules.specs.Examples.{kv_record}
 use Rattle.step_rules.specs.Answers.{stored, refused, disk_fault}
+use Rattle.record_rules.proofs.Members.{Has}
+use Rattle.view_rules.proofs.Chains.{Has-from_Contains}
 use Rattle.step_rules.specs.Calls.{status_call}
 use Rattle.step_rules.specs.Store.{KeyedStore}
-use Rattle.step_rules.specs.Turn.{used_clock, used_bytes}
+use Rattle.step_rules.specs.Turn.{used_clock, used_bytes, step_turn}
 use Rattle.step_rules.specs.Step.{Ready, start_draft, start_drafts, append_step}
-use Rattle.step_rules.specs.PageTurns.{page_faulted}
+use Rattle.step_rules.specs.PageTurns.{page_faulted, taken_page}
+use Rattle.step_rules.specs.ReadTurns.{status_read, page_read, read_faulted, tells_status, tells_page, faults_on_page, wants_memory}
 use Rattle.step_rules.specs.Examples.{second_time, ls_call, two_records}
 use Rattle.request_rules.proofs.Examples.{calls, faults}
-use Rattle.session_rules.specs.Sessions.{Asked, a_call, no_call, caller_of, Told, told_disk_fault, told_random_fault, told_no_memory, told_no_memory_to_read, Session, SessionAnswer, to_call, to_page, told_step, told_bad, told_no_memory_for_bad, told_page, told_page_refused, told_page_disk_fault, told_page_no_memory}
+use Rattle.session_rules.specs.Sessions.{Asked, a_call, no_call, unrouted, caller_of, Told, told_disk_fault, told_random_fault, told_no_memory, told_no_memory_to_read, Session, SessionAnswer, to_call, to_page, to_read, One, is_of, told_step, told_bad, told_no_memory_for_bad, told_page, told_page_refused, told_page_disk_fault, told_page_no_memory, told_read, told_unrouted, told_no_memory_for_unrouted}
+use Rattle.session_rules.specs.Turns.{TurnAnswers, answers_call, answers_bad, answers_page, answers_read, answers_unrouted}
 use Rattle.session_rules.specs.Passes.{TurnItem, failures, tells_disk_fault, TurnsFor}
-use Rattle.session_rules.specs.Examples.{other_bytes, other_id, started_by, both, a_turn, another_turn, by_first, by_second, worker_batch, worker_journal, WorkedReplies, WorkedSessions, WorkedPages, WorkedReading, WorkedPass}
+use Rattle.session_rules.specs.Books.{Finds}
+use Rattle.session_rules.specs.Http.{route_codes, IsHttp}
+use Rattle.session_rules.specs.Examples.{high_bytes, high_id, started_by, both, a_turn, another_turn, by_first, by_second, once_settled, pass_at, book_at, posted, http_asked, worker_batch, worker_journal, WorkedReplies, WorkedSessions, WorkedPages, WorkedReading, WorkedPass, WorkedBook, WorkedHttp}
 
 pub replies : WorkedReplies
 unfolding id_text
@@ -60,7 +67,7 @@ sessions = record {
         commits_are = refl;
         behind = omega arith;
         within = omega arith;
-        told = told_step ls_call (started_by 2 other_id first_time ∷ []) _ refl refl (append_step second_time ten_bytes (start_draft (codes "ls") (codes "/") (codes "s1") (codes "h:u")) refl refl (record { short = refl; drafts = start_drafts _ _ _ _ refl refl; room = refl }) refl refl refl) refl;
+        told = told_step ls_call (started_by 2 high_id first_time ∷ []) _ refl refl (append_step second_time ten_bytes (start_draft (codes "ls") (codes "/") (codes "s1") (codes "h:u")) refl refl (record { short = refl; drafts = start_drafts _ _ _ _ refl refl; room = refl }) refl refl refl) refl;
       },
       (refl, refl),
     );
@@ -68,19 +75,19 @@ sessions = record {
   second = λ store. record {
     since = both;
     begins = refl;
-    commits = started_by 2 other_id first_time ∷ [];
+    commits = started_by 2 high_id first_time ∷ [];
     own_are = refl;
     serves = (
       record {
-        used_here = read_and_drew first_time other_bytes;
+        used_here = read_and_drew first_time high_bytes;
         used_later = used_nothing;
-        commit = started_by 2 other_id first_time ∷ [];
+        commit = started_by 2 high_id first_time ∷ [];
         commits_later = [];
         used_is = refl;
         commits_are = refl;
         behind = omega arith;
         within = omega arith;
-        told = told_step ls_call [] _ refl refl (append_step first_time other_bytes (start_draft (codes "ls") (codes "/") (codes "s1") (codes "h:u")) refl refl (record { short = refl; drafts = start_drafts _ _ _ _ refl refl; room = refl }) refl refl refl) refl;
+        told = told_step ls_call [] _ refl refl (append_step first_time high_bytes (start_draft (codes "ls") (codes "/") (codes "s1") (codes "h:u")) refl refl (record { short = refl; drafts = start_drafts _ _ _ _ refl refl; room = refl }) refl refl refl) refl;
       },
       (refl, refl),
     );
@@ -191,4 +198,154 @@ pass = record {
   split_is = refl;
   joined_is = refl;
   other_joined = refl;
+}
+
+-- ---- a book
+
+-- no list without entries begins with one, and no list of bytes either
+no_entry : (entry : Entry) (entries : List Entry) → [] ≡ entry ∷ entries → ⊥
+no_entry entry entries is = let same : ◌≡◌ {A = ℕ} 0 (length (entry ∷ entries)) = ap length is in omega (arith, same)
+
+no_part : (byte : ℕ) (bytes : List ℕ) → [] ≡ byte ∷ bytes → ⊥
+no_part byte bytes is = let same : ◌≡◌ {A = ℕ} 0 (length (byte ∷ bytes)) = ap length is in omega (arith, same)
+
+own_not_found : Finds (pass_at []) (book_at (by_first ∷ []) 4) → ⊥
+own_not_found finds = true≢false (subst (All (λ entry. is_of 1 entry ≡ false)) (sym finds.entries) finds.of_others 0 by_first (omega arith))
+
+doubt_kept_by_bad : (store : KeyedStore) (answer : SessionAnswer) → TurnAnswers store [] (by_first ∷ []) (caller_of 1 2) (no_call 14) used_nothing [] [] answer → ⊥
+doubt_kept_by_bad store answer (answers_call _ _ is _ _) = absurd cc
+doubt_kept_by_bad store answer (answers_bad _ _ _ l _) = no_entry by_first [] l.doubt_is
+doubt_kept_by_bad store answer (answers_page _ _ _ is _ _ _) = absurd cc
+doubt_kept_by_bad store answer (answers_read _ _ is _ _ _) = absurd cc
+doubt_kept_by_bad store answer (answers_unrouted _ is _ _ _) = absurd cc
+
+doubt_kept_nowhere : (store : KeyedStore) (answer : SessionAnswer) → TurnAnswers store [] (by_first ∷ []) (caller_of 1 2) (unrouted 404) used_nothing [] [] answer → ⊥
+doubt_kept_nowhere store answer (answers_call _ _ is _ _) = absurd cc
+doubt_kept_nowhere store answer (answers_bad _ is _ _ _) = absurd cc
+doubt_kept_nowhere store answer (answers_page _ _ _ is _ _ _) = absurd cc
+doubt_kept_nowhere store answer (answers_read _ _ is _ _ _) = absurd cc
+doubt_kept_nowhere store answer (answers_unrouted _ _ _ l _) = no_entry by_first [] l.doubt_is
+
+pub book : WorkedBook
+book = record {
+  first_is = refl;
+  found = record {
+    since = by_second ∷ once_settled ∷ [];
+    entries = refl;
+    of_others = All-from_recursion (λ entry. is_of 1 entry ≡ false) (by_second ∷ once_settled ∷ []) (refl, (refl, tt));
+    faults = omega arith;
+    fixed = refl;
+  };
+  own_behind = own_not_found;
+  unseen = λ finds. no_entry by_second finds.since finds.entries;
+  uncounted = λ finds. let counted : 4 ≤ 3 = finds.faults in omega (arith, counted);
+  other_book = λ finds. no_part 0 (1 ∷ []) finds.fixed;
+  went_well = refl;
+  went_wrong = refl;
+  takes = record {
+    finds = record {
+      since = by_second ∷ [];
+      entries = refl;
+      of_others = All-from_recursion (λ entry. is_of 1 entry ≡ false) (by_second ∷ []) (refl, tt);
+      faults = omega arith;
+      fixed = refl;
+    };
+    moves = record { entries = (by_first ∷ [], refl); faults = omega arith; fixed = refl };
+    after_is = refl;
+  };
+  no_entry_lost = λ moves. no_entry by_second moves.entries.0 moves.entries.1;
+  no_fault_lost = λ moves. let counted : 4 ≤ 3 = moves.faults in omega (arith, counted);
+  no_other_part = λ moves. no_part 0 (1 ∷ []) moves.fixed;
+  start_in_turn = λ store. answers_call ls_call _ refl
+      (step_turn _ _ refl (append_step first_time high_bytes (start_draft (codes "ls") (codes "/") (codes "s1") (codes "h:u")) refl refl (record { short = refl; drafts = start_drafts _ _ _ _ refl refl; room = refl }) refl refl refl) (record { journal_is = refl; doubt_is = refl; reply_is = refl })) refl;
+  page_in_turn = λ store. answers_page 5 two_records _ refl refl (taken_page worker_batch refl (record { journal_is = refl; doubt_is = refl }) refl) refl;
+  status_in_turn = λ store. answers_read (status_read 5) _ refl refl (tells_status 5 refl (record { journal_is = refl; doubt_is = refl }) refl) refl;
+  still = record { entries = ([], refl); faults = omega arith; fixed = refl };
+  bad_unheld_in_turn = λ store. answers_bad 14 refl refl (record { journal_is = refl; doubt_is = refl }) (inr refl);
+  bad_keeps_doubt = doubt_kept_by_bad;
+  nowhere_keeps_doubt = doubt_kept_nowhere;
+  bad_in_turn = λ store. answers_bad 14 refl refl (record { journal_is = refl; doubt_is = refl }) (inl refl);
+  nowhere_in_turn = λ store. answers_unrouted 404 refl refl (record { journal_is = refl; doubt_is = refl }) (inl refl);
+  unheld_in_turn = λ store. answers_unrouted 404 refl refl (record { journal_is = refl; doubt_is = refl }) (inr refl);
+}
+
+-- ---- a session over HTTP
+
+-- a reply of it that commits nothing
+abbrev uncommitted : (store : KeyedStore) (call : ℕ) (asked : Asked) (answer : SessionAnswer) → Told store posted (caller_of 2 call) asked 3 used_nothing answer [] → One store posted 2 3 call asked used_nothing (record { front = 3; answer = answer }) []
+uncommitted store call asked answer told = record { used_here = used_nothing; used_later = used_nothing; commit = []; commits_later = []; used_is = refl; commits_are = refl; behind = omega arith; within = omega arith; told = told }
+
+one_of_four : (code : ℕ) → Has route_codes code → ((code ≡ 400) ⊎ (code ≡ 401)) ⊎ ((code ≡ 404) ⊎ (code ≡ 405))
+one_of_four code (inl e) = inl (inl (sym e))
+one_of_four code (inr (inl e)) = inl (inr (sym e))
+one_of_four code (inr (inr (inl e))) = inr (inl (sym e))
+one_of_four code (inr (inr (inr (inl e)))) = inr (inr (sym e))
+one_of_four code (inr (inr (inr (inr none)))) = absurd none
+
+all_http : All IsHttp http_asked
+all_http =
+    let nowhere : IsHttp (unrouted 404) = (2, omega arith, refl) in
+    let no_ones : IsHttp (unrouted 401) = (1, omega arith, refl) in
+    All-from_recursion IsHttp http_asked (tt, (tt, (tt, (nowhere, (no_ones, (tt, (tt, tt)))))))
+
+pub http : WorkedHttp
+http = record {
+  session = λ store. record {
+    of_http = all_http;
+    as_many = refl;
+    session = record {
+      since = posted;
+      begins = refl;
+      commits = taken_entry (caller_of 2 1) 5 (kv_record 0 1000) ∷ taken_entry (caller_of 2 1) 5 (kv_record 1 1001) ∷ [];
+      own_are = refl;
+      serves = (
+        record {
+          used_here = used_nothing;
+          used_later = used_nothing;
+          commit = taken_entry (caller_of 2 1) 5 (kv_record 0 1000) ∷ taken_entry (caller_of 2 1) 5 (kv_record 1 1001) ∷ [];
+          commits_later = [];
+          used_is = refl;
+          commits_are = refl;
+          behind = omega arith;
+          within = omega arith;
+          told = told_page 5 two_records (started_by 1 (made_id second_time ten_bytes) second_time ∷ []) refl refl refl refl refl;
+        },
+        (
+          uncommitted store 2 _ _ (told_read (status_read 5) _ refl (tells_status 5 refl (record { journal_is = refl; doubt_is = refl }) refl) refl refl refl),
+          (
+            uncommitted store 3 _ _ (told_read (page_read 5 2 (codes "kv") 1 100) _ refl (tells_page 5 2 _ 1 100 refl (record { journal_is = refl; doubt_is = refl }) refl) refl refl refl),
+            (
+              uncommitted store 4 _ _ (told_unrouted 404 refl refl refl refl),
+              (
+                uncommitted store 5 _ _ (told_no_memory_for_unrouted 401 refl refl refl refl),
+                (
+                  uncommitted store 6 _ _ (told_read (page_read 5 2 (codes "kv") 0 100) _ refl (faults_on_page 5 2 _ 0 100 refl (record { journal_is = refl; doubt_is = refl }) refl) refl refl refl),
+                  (uncommitted store 7 _ _ (told_read (status_read 5) _ refl (wants_memory (λ e. cc) (record { journal_is = refl; doubt_is = refl }) refl) refl refl refl), (refl, refl)),
+                ),
+              ),
+            ),
+          ),
+        ),
+      );
+    };
+  };
+  codes_are = refl;
+  refusals_are = refl;
+  others_are = refl;
+  no_front = λ comes. comes;
+  no_call_comes = λ comes. comes;
+  no_bytes_come = λ comes. comes;
+  refused_before = (((0, omega arith, refl), (1, omega arith, refl)), ((2, omega arith, refl), (3, omega arith, refl)));
+  no_other_code = λ code among. one_of_four code (Has-from_Contains route_codes code among);
+  start_may_fault = refl;
+  status_call_may_not = λ may. true≢false may;
+  bad_may_not = λ may. may;
+  post_may_fault = tt;
+  page_may_fault = tt;
+  status_may_not = λ may. may;
+  front_may_not = λ may. may;
+  unrouted_may_not = λ may. may;
+  beside = refl;
+  failed_read_turn = (record { found = 1; left = 1; failed = true } ∷ [], refl, (refl, (λ told. refl), tt));
+  no_failed_read_turn = λ turns. same_turn (to_read read_faulted) turns.0 refl turns.1 turns.2;
 }

@@ -1,9 +1,9 @@
 -- A turn of a session's pass makes the session longer by one request.
-use Rattle.std.proofs.Common.{◌≡◌, ◌≢◌, ℕ, suc, ◌+◌, ◌≤◌, true, false, cond, Ok, List, [], ◌∷◌, ◌++◌, length, map, take, filter, refl, sym, ◌∙◌, ap, subst, arith, append_assoc, length-append}
+use Rattle.std.proofs.Common.{◌≡◌, ◌≢◌, ℕ, suc, ◌+◌, ◌≤◌, true, false, cond, ◌⊎◌, inl, inr, Ok, List, [], ◌∷◌, ◌++◌, length, map, take, filter, refl, sym, ◌∙◌, ap, subst, arith, append_assoc, length-append}
 use Rattle.std.specs.Prelude.{All}
 use Rattle.std.proofs.lemmas.Bool.{true≢false, eq-eqb, ne_eqb}
-use Rattle.std.proofs.lemmas.List.{append-nil, take_at}
-use Rattle.std.proofs.lemmas.List.Elements.{filter-append, All-map}
+use Rattle.std.proofs.lemmas.List.{append-nil, append_cancel_left, take_at}
+use Rattle.std.proofs.lemmas.List.Elements.{filter-append, All-append, All-map}
 use Rattle.definitions.specs.Step.{Used, used_nothing, then_used}
 use Rattle.definitions.proofs.Runs.{then_used-assoc, nothing-then_used, then_used-nothing}
 use Rattle.record_rules.specs.Records.{SealedRecord, Caller, Entry}
@@ -14,12 +14,16 @@ use Rattle.step_rules.specs.Calls.{Call, is_read}
 use Rattle.step_rules.specs.Answers.{Answer, Reply}
 use Rattle.step_rules.specs.Store.{KeyedStore}
 use Rattle.step_rules.specs.Step.{Ready, Step, long_step, unknown_step, full_step, taken_step, append_step, read_step}
-use Rattle.step_rules.specs.Turn.{settled_entry, settled, is_refusal, TurnLeaves, UsedSome, used_clock, used_bytes, Turn, read_turn, short_read_turn, unsettled_turn, step_turn, undrawn_turn, uncommitted_turn, short_turn, short_settled_turn}
+use Rattle.step_rules.specs.Turn.{settled_entry, settled, is_refusal, UsedSome, used_clock, used_bytes, Turn, read_turn, short_read_turn, unsettled_turn, step_turn, undrawn_turn, uncommitted_turn, short_turn, short_settled_turn}
 use Rattle.step_rules.specs.PageTurns.{PageAnswer, PageTurn, unsettled_page, taken_page, refused_page, uncommitted_page, short_page, short_settled_page}
+use Rattle.step_rules.specs.ReadTurns.{StoreRead, ReadAnswer, ReadTurn, tells_status, tells_page, tells_front, faults_on_page, wants_memory}
 use Rattle.step_rules.proofs.Steps.{Step-adds}
+use Rattle.step_rules.proofs.ReadTurns.{ReadTurn-stands}
 use Rattle.step_rules.proofs.Outcomes.{shows_read}
-use Rattle.session_rules.specs.Sessions.{Asked, a_call, a_page, SessionAnswer, to_call, to_page, SessionReply, call_reply, page_reply, caller_of, Told, told_step, told_disk_fault, told_random_fault, told_no_memory, told_no_memory_to_read, told_page, told_page_refused, told_page_disk_fault, told_page_no_memory, Serves, is_of, Session}
-use Rattle.session_rules.proofs.Sessions.{serves_still, session_still}
+use Rattle.session_rules.specs.Sessions.{Asked, a_call, a_page, SessionAnswer, to_call, to_page, SessionReply, caller_of, Told, told_step, told_disk_fault, told_random_fault, told_no_memory, told_no_memory_to_read, told_bad, told_no_memory_for_bad, told_page, told_page_refused, told_page_disk_fault, told_page_no_memory, told_read, told_unrouted, told_no_memory_for_unrouted, Serves, is_of, Session}
+use Rattle.session_rules.specs.Turns.{TurnAnswers, answers_call, answers_bad, answers_page, answers_read, answers_unrouted}
+use Rattle.session_rules.specs.Laws.{AddsOwn}
+use Rattle.session_rules.proofs.Sessions.{serves_still, none_kept, session_still}
 
 whole : (xs : List Entry) → take (length xs) xs ≡ xs
 whole xs = ap (take (length xs)) (sym (append-nil xs)) ∙ take_at xs [] (length xs) refl
@@ -27,20 +31,19 @@ whole xs = ap (take (length xs)) (sym (append-nil xs)) ∙ take_at xs [] (length
 -- ---- what a turn is told
 
 -- what the turn settled, what it committed, and what is told of it
-pub record Turned (store : KeyedStore) (journal : List Entry) (caller : Caller) (asked : Asked) (used : Used) (after : List Entry) (reply : SessionReply) : Type 0 where
+pub record Turned (store : KeyedStore) (journal doubt : List Entry) (caller : Caller) (asked : Asked) (used : Used) (after : List Entry) (reply : SessionReply) : Type 0 where
   pub settles : List Entry
   pub commit : List Entry
   pub after_is : after ≡ journal ++ (settles ++ commit)
   pub front_is : reply.front ≡ length after
+  pub settles_are : (settles ≡ []) ⊎ (settles ≡ map settled_entry doubt)
   -- what is settled is of no pass
-  pub quiet : (number : ℕ) → number ≢ 0 → filter (is_of number) settles ≡ []
+  pub quiet : (number : ℕ) → number ≢ 0 → All (λ entry. is_of number entry ≡ false) settles
   pub of_caller : All (λ (entry : Entry). entry.caller ≡ caller) commit
   pub told : Told store after caller asked reply.front used reply.answer commit
 
-settled_quiet : (doubt : List Entry) (number : ℕ) → number ≢ 0 → filter (is_of number) (map settled_entry doubt) ≡ []
-settled_quiet [] number named = refl
-settled_quiet (entry ∷ doubt) number named =
-    ap (λ b. cond b (settled_entry entry ∷ filter (is_of number) (map settled_entry doubt)) (filter (is_of number) (map settled_entry doubt))) (ne_eqb 0 number (λ e. named (sym e))) ∙ settled_quiet doubt number named
+settled_quiet : (doubt : List Entry) (number : ℕ) → number ≢ 0 → All (λ entry. is_of number entry ≡ false) (map settled_entry doubt)
+settled_quiet doubt number named = All-map (λ entry. is_of number entry ≡ false) settled_entry doubt (λ k d below. ne_eqb 0 number (λ e. named (sym e)))
 
 -- a commit that was tried had drawn its bytes
 used_by_commit : (store : KeyedStore) (journal : List Entry) (caller : Caller) (call : Call) (used : Used) (after : List Entry) (answer : Answer) → is_read call ≡ false → is_refusal answer ≡ false → Step store journal caller call used after answer → UsedSome store journal call used
@@ -57,47 +60,50 @@ answered_at after answer = record { front = length after; answer = answer }
 
 module _ (store : KeyedStore) (journal doubt : List Entry) (caller : Caller) (asked : Asked) (used : Used) (after : List Entry) (answer : SessionAnswer) where
   -- nothing settled, nothing committed
-  nothing_turned : after ≡ journal → Told store after caller asked (length after) used answer [] → Turned store journal caller asked used after (answered_at after answer)
-  nothing_turned stays told = record { settles = []; commit = []; after_is = stays ∙ sym (append-nil journal); front_is = refl; quiet = λ number named. refl; of_caller = λ k d below. absurd (omega arith); told = told }
+  nothing_turned : after ≡ journal → Told store after caller asked (length after) used answer [] → Turned store journal doubt caller asked used after (answered_at after answer)
+  nothing_turned stays told = record { settles = []; settles_are = inl refl; commit = []; after_is = stays ∙ sym (append-nil journal); front_is = refl; quiet = λ number named k d below. absurd (omega arith); of_caller = λ k d below. absurd (omega arith); told = told }
 
-  settled_turned : (commit : List Entry) → after ≡ settled journal doubt ++ commit → All (λ (entry : Entry). entry.caller ≡ caller) commit → Told store after caller asked (length after) used answer commit → Turned store journal caller asked used after (answered_at after answer)
+  settled_turned : (commit : List Entry) → after ≡ settled journal doubt ++ commit → All (λ (entry : Entry). entry.caller ≡ caller) commit → Told store after caller asked (length after) used answer commit → Turned store journal doubt caller asked used after (answered_at after answer)
   settled_turned commit after_is own told =
-      record { settles = map settled_entry doubt; commit = commit; after_is = after_is ∙ append_assoc journal (map settled_entry doubt) commit; front_is = refl; quiet = settled_quiet doubt; of_caller = own; told = told }
+      record { settles = map settled_entry doubt; settles_are = inr refl; commit = commit; after_is = after_is ∙ append_assoc journal (map settled_entry doubt) commit; front_is = refl; quiet = settled_quiet doubt; of_caller = own; told = told }
 
-  only_settled : after ≡ settled journal doubt → Told store after caller asked (length after) used answer [] → Turned store journal caller asked used after (answered_at after answer)
+  only_settled : after ≡ settled journal doubt → Told store after caller asked (length after) used answer [] → Turned store journal doubt caller asked used after (answered_at after answer)
   only_settled after_is told = settled_turned [] (after_is ∙ sym (append-nil (settled journal doubt))) (λ k d below. absurd (omega arith)) told
 
-module _ (store : KeyedStore) (journal doubt : List Entry) (caller : Caller) (call : Call) (used : Used) (after doubt_after : List Entry) (reply : Reply) where
-  by_step : (before commit : List Entry) (answer : Answer) → after ≡ before ++ commit → Step store before caller call used after answer → Told store after caller (a_call call) (length after) used (to_call answer) commit
-  by_step before commit answer after_is step = told_step call before answer refl (whole after ∙ after_is) (subst (λ j. Step store before caller call used j answer) (sym (whole after)) step) refl
+module _ (store : KeyedStore) (journal doubt : List Entry) (caller : Caller) (call : Call) (used : Used) (after doubt_after : List Entry) (reply : Reply) (asked : Asked) (answer : SessionAnswer) (is : asked ≡ a_call call) (told : answer ≡ to_call reply.answer) where
+  -- the reply's answer
+  answer_is : (given : Answer) → reply ≡ record { front = length after; answer = given } → answer ≡ to_call given
+  answer_is given same = told ∙ ap (λ (r : Reply). to_call r.answer) same
 
-  replied : (answer : Answer) → reply ≡ record { front = length after; answer = answer } → Turned store journal caller (a_call call) used after (answered_at after (to_call answer)) → Turned store journal caller (a_call call) used after (call_reply reply)
-  replied answer is turned = subst (λ (r : Reply). Turned store journal caller (a_call call) used after (call_reply r)) (sym is) turned
+  by_step : (before commit : List Entry) (given : Answer) → after ≡ before ++ commit → reply ≡ record { front = length after; answer = given } → Step store before caller call used after given → Told store after caller asked (length after) used answer commit
+  by_step before commit given after_is same step = told_step call before given is (whole after ∙ after_is) (subst (λ j. Step store before caller call used j given) (sym (whole after)) step) (answer_is given same)
 
   -- it left the journal, or settled
-  stayed : (answer : Answer) → TurnLeaves journal doubt after doubt_after reply answer → Told store after caller (a_call call) (length after) used (to_call answer) [] → Turned store journal caller (a_call call) used after (call_reply reply)
-  stayed answer l told = replied answer l.reply_is (nothing_turned store journal doubt caller (a_call call) used after (to_call answer) l.journal_is told)
+  stayed : after ≡ journal → Told store after caller asked (length after) used answer [] → Turned store journal doubt caller asked used after (answered_at after answer)
+  stayed = nothing_turned store journal doubt caller asked used after answer
 
-  settled_alone : (left : List Entry) (answer : Answer) → TurnLeaves (settled journal doubt) left after doubt_after reply answer → Told store after caller (a_call call) (length after) used (to_call answer) [] → Turned store journal caller (a_call call) used after (call_reply reply)
-  settled_alone left answer l told = replied answer l.reply_is (only_settled store journal doubt caller (a_call call) used after (to_call answer) l.journal_is told)
+  settled_alone : after ≡ settled journal doubt → Told store after caller asked (length after) used answer [] → Turned store journal doubt caller asked used after (answered_at after answer)
+  settled_alone = only_settled store journal doubt caller asked used after answer
 
   -- what was used at a journal that it left
   used_after : (left : List Entry) → after ≡ left → UsedSome store left call used → UsedSome store (take (length after) after) call used
-  used_after left is some = subst (λ j. UsedSome store j call used) (sym (whole after ∙ is)) some
+  used_after left same some = subst (λ j. UsedSome store j call used) (sym (whole after ∙ same)) some
 
-  pub turn_is_told : Turn store journal doubt caller call used after doubt_after reply → Turned store journal caller (a_call call) used after (call_reply reply)
-  turn_is_told (read_turn answer is shows l) = stayed answer l (by_step journal [] answer (l.journal_is ∙ sym (append-nil journal)) (read_step is shows l.journal_is))
-  turn_is_told (short_read_turn reads is l) = stayed _ l (told_no_memory_to_read call refl reads is refl refl)
-  turn_is_told (unsettled_turn now writes _ is l) = stayed _ l (told_disk_fault call refl writes (used_clock now is) refl refl)
-  turn_is_told (step_turn made answer writes step l) =
-      let left : Step store (settled journal doubt) caller call used after answer = subst (λ j. Step store (settled journal doubt) caller call used j answer) (sym l.journal_is) step in
-      let adds = Step-adds store (settled journal doubt) caller call used after answer left in
-      replied answer l.reply_is (settled_turned store journal doubt caller (a_call call) used after (to_call answer) adds.added adds.after_is adds.of_caller (by_step (settled journal doubt) adds.added answer adds.after_is left))
-  turn_is_told (undrawn_turn now draft ready is l) = settled_alone [] _ l (told_random_fault call draft now refl (subst (λ j. Ready store j call draft) (sym (whole after ∙ l.journal_is)) ready) is refl refl)
-  turn_is_told (uncommitted_turn batch left answer writes taken step _ l) =
-      settled_alone left _ l (told_disk_fault call refl writes (used_after (settled journal doubt) l.journal_is (used_by_commit store (settled journal doubt) caller call used (settled journal doubt ++ batch) answer writes taken step)) refl refl)
-  turn_is_told (short_turn now writes is l) = stayed _ l (told_no_memory call refl writes (used_clock now is) refl refl)
-  turn_is_told (short_settled_turn writes some l) = settled_alone [] _ l (told_no_memory call refl writes (used_after (settled journal doubt) l.journal_is some) refl refl)
+  turn_is_told : Turn store journal doubt caller call used after doubt_after reply → Turned store journal doubt caller asked used after (answered_at after answer)
+  turn_is_told (read_turn given u shows l) = stayed l.journal_is (by_step journal [] given (l.journal_is ∙ sym (append-nil journal)) l.reply_is (read_step u shows l.journal_is))
+  turn_is_told (short_read_turn reads u l) = stayed l.journal_is (told_no_memory_to_read call is reads u (answer_is _ l.reply_is) refl)
+  turn_is_told (unsettled_turn now writes _ u l) = stayed l.journal_is (told_disk_fault call is writes (used_clock now u) (answer_is _ l.reply_is) refl)
+  turn_is_told (step_turn made given writes step l) =
+      let left : Step store (settled journal doubt) caller call used after given = subst (λ j. Step store (settled journal doubt) caller call used j given) (sym l.journal_is) step in
+      let adds = Step-adds store (settled journal doubt) caller call used after given left in
+      settled_turned store journal doubt caller asked used after answer adds.added adds.after_is adds.of_caller (by_step (settled journal doubt) adds.added given adds.after_is l.reply_is left)
+  turn_is_told (undrawn_turn now draft ready u l) =
+      settled_alone l.journal_is (told_random_fault call draft now is (subst (λ j. Ready store j call draft) (sym (whole after ∙ l.journal_is)) ready) u (answer_is _ l.reply_is) refl)
+  turn_is_told (uncommitted_turn batch left given writes taken step _ l) =
+      settled_alone l.journal_is
+      (told_disk_fault call is writes (used_after (settled journal doubt) l.journal_is (used_by_commit store (settled journal doubt) caller call used (settled journal doubt ++ batch) given writes taken step)) (answer_is _ l.reply_is) refl)
+  turn_is_told (short_turn now writes u l) = stayed l.journal_is (told_no_memory call is writes (used_clock now u) (answer_is _ l.reply_is) refl)
+  turn_is_told (short_settled_turn writes some l) = settled_alone l.journal_is (told_no_memory call is writes (used_after (settled journal doubt) l.journal_is some) (answer_is _ l.reply_is) refl)
 
 -- ---- the same of a page
 
@@ -108,18 +114,103 @@ batch_of_caller journal caller owner records batch is =
     subst (All (λ (entry : Entry). entry.caller ≡ caller)) (grown_batch (map (taken_entry caller owner) fresh) (first_refusal owner (own_events journal owner) [] records) batch is).1
     (All-map (λ (entry : Entry). entry.caller ≡ caller) (taken_entry caller owner) fresh (λ k r below. refl))
 
-module _ (store : KeyedStore) (journal doubt : List Entry) (caller : Caller) (owner : ℕ) (records : List SealedRecord) (after doubt_after : List Entry) (answer : PageAnswer) where
-  pub page_turn_is_told : PageTurn journal doubt caller owner records after doubt_after answer → Turned store journal caller (a_page owner records) used_nothing after (page_reply (length after) answer)
-  page_turn_is_told (unsettled_page _ l is) = nothing_turned store journal doubt caller (a_page owner records) used_nothing after (to_page answer) l.journal_is (told_page_disk_fault owner records refl refl (ap to_page is) refl)
-  page_turn_is_told (taken_page batch grows l is) =
-      settled_turned store journal doubt caller (a_page owner records) used_nothing after (to_page answer) batch l.journal_is (batch_of_caller (settled journal doubt) caller owner records batch grows)
-      (told_page owner records (settled journal doubt) refl (whole after ∙ l.journal_is) grows refl (ap to_page is))
-  page_turn_is_told (refused_page refusal grows l is) =
-      only_settled store journal doubt caller (a_page owner records) used_nothing after (to_page answer) l.journal_is
-      (told_page_refused owner records refusal refl (ap (λ j. grow j caller owner records) (whole after ∙ l.journal_is) ∙ grows) refl (ap to_page is) refl)
-  page_turn_is_told (uncommitted_page _ _ _ _ _ l is) = only_settled store journal doubt caller (a_page owner records) used_nothing after (to_page answer) l.journal_is (told_page_disk_fault owner records refl refl (ap to_page is) refl)
-  page_turn_is_told (short_page l is) = nothing_turned store journal doubt caller (a_page owner records) used_nothing after (to_page answer) l.journal_is (told_page_no_memory owner records refl refl (ap to_page is) refl)
-  page_turn_is_told (short_settled_page l is) = only_settled store journal doubt caller (a_page owner records) used_nothing after (to_page answer) l.journal_is (told_page_no_memory owner records refl refl (ap to_page is) refl)
+module _ (store : KeyedStore) (journal doubt : List Entry) (caller : Caller) (owner : ℕ) (records : List SealedRecord) (used : Used) (after doubt_after : List Entry) (given : PageAnswer) (asked : Asked) (answer : SessionAnswer) (is : asked ≡ a_page owner records) (u : used ≡ used_nothing) (told : answer ≡ to_page given) where
+  page_is_told : PageTurn journal doubt caller owner records after doubt_after given → Turned store journal doubt caller asked used after (answered_at after answer)
+  page_is_told (unsettled_page _ l same) = nothing_turned store journal doubt caller asked used after answer l.journal_is (told_page_disk_fault owner records is u (told ∙ ap to_page same) refl)
+  page_is_told (taken_page batch grows l same) =
+      settled_turned store journal doubt caller asked used after answer batch l.journal_is (batch_of_caller (settled journal doubt) caller owner records batch grows)
+      (told_page owner records (settled journal doubt) is (whole after ∙ l.journal_is) grows u (told ∙ ap to_page same))
+  page_is_told (refused_page refusal grows l same) =
+      only_settled store journal doubt caller asked used after answer l.journal_is
+      (told_page_refused owner records refusal is (ap (λ j. grow j caller owner records) (whole after ∙ l.journal_is) ∙ grows) u (told ∙ ap to_page same) refl)
+  page_is_told (uncommitted_page _ _ _ _ _ l same) = only_settled store journal doubt caller asked used after answer l.journal_is (told_page_disk_fault owner records is u (told ∙ ap to_page same) refl)
+  page_is_told (short_page l same) = nothing_turned store journal doubt caller asked used after answer l.journal_is (told_page_no_memory owner records is u (told ∙ ap to_page same) refl)
+  page_is_told (short_settled_page l same) = only_settled store journal doubt caller asked used after answer l.journal_is (told_page_no_memory owner records is u (told ∙ ap to_page same) refl)
+
+-- ---- and of whatever is asked
+
+-- a read tells the same of the journal that it left, with nothing in doubt
+read_alone : (journal doubt : List Entry) (read : StoreRead) (after doubt_after : List Entry) (given : ReadAnswer) → ReadTurn journal doubt read after doubt_after given → ReadTurn journal [] read journal [] given
+read_alone journal doubt read after doubt_after given (tells_status owner is _ same) = tells_status owner is (record { journal_is = refl; doubt_is = refl }) same
+read_alone journal doubt read after doubt_after given (tells_page owner host tag start count is _ same) = tells_page owner host tag start count is (record { journal_is = refl; doubt_is = refl }) same
+read_alone journal doubt read after doubt_after given (tells_front is _ same) = tells_front is (record { journal_is = refl; doubt_is = refl }) same
+read_alone journal doubt read after doubt_after given (faults_on_page owner host tag start count is _ same) = faults_on_page owner host tag start count is (record { journal_is = refl; doubt_is = refl }) same
+read_alone journal doubt read after doubt_after given (wants_memory other _ same) = wants_memory other (record { journal_is = refl; doubt_is = refl }) same
+
+module _ (store : KeyedStore) (journal doubt : List Entry) (caller : Caller) (asked : Asked) (used : Used) (after doubt_after : List Entry) (answer : SessionAnswer) where
+  left_alone : after ≡ journal → Told store after caller asked (length after) used answer [] → Turned store journal doubt caller asked used after (answered_at after answer)
+  left_alone = nothing_turned store journal doubt caller asked used after answer
+
+  answers_are_told : TurnAnswers store journal doubt caller asked used after doubt_after answer → Turned store journal doubt caller asked used after (answered_at after answer)
+  answers_are_told (answers_call call reply is turn told) = turn_is_told store journal doubt caller call used after doubt_after reply asked answer is told turn
+  answers_are_told (answers_bad place is u l (inl told)) = left_alone l.journal_is (told_bad place is u told refl)
+  answers_are_told (answers_bad place is u l (inr told)) = left_alone l.journal_is (told_no_memory_for_bad place is u told refl)
+  answers_are_told (answers_page owner records given is u turn told) = page_is_told store journal doubt caller owner records used after doubt_after given asked answer is u told turn
+  answers_are_told (answers_read read given is u turn told) =
+      let stays : after ≡ journal = (ReadTurn-stands journal doubt read after doubt_after given turn).journal_is in
+      let there : ReadTurn (take (length after) after) [] read (take (length after) after) [] given = subst (λ j. ReadTurn j [] read j [] given) (sym (whole after ∙ stays)) (read_alone journal doubt read after doubt_after given turn) in
+      left_alone stays (told_read read given is there u told refl)
+  answers_are_told (answers_unrouted code is u l (inl told)) = left_alone l.journal_is (told_unrouted code is u told refl)
+  answers_are_told (answers_unrouted code is u l (inr told)) = left_alone l.journal_is (told_no_memory_for_unrouted code is u told refl)
+
+none_of_caller : (caller : Caller) (doubt_after : List Entry) → doubt_after ≡ [] → All (λ (entry : Entry). entry.caller ≡ caller) doubt_after
+none_of_caller caller doubt_after is = subst (All (λ (entry : Entry). entry.caller ≡ caller)) (sym is) (λ k d below. absurd (omega arith))
+
+step_of_caller : (store : KeyedStore) (before : List Entry) (caller : Caller) (call : Call) (used : Used) (batch : List Entry) (given : Answer) → Step store before caller call used (before ++ batch) given → All (λ (entry : Entry). entry.caller ≡ caller) batch
+step_of_caller store before caller call used batch given step =
+    let adds = Step-adds store before caller call used (before ++ batch) given step in
+    subst (All (λ (entry : Entry). entry.caller ≡ caller)) (sym (append_cancel_left before batch adds.added adds.after_is)) adds.of_caller
+
+lost_or_left : (caller : Caller) (left batch doubt_after : List Entry) → (left ≡ []) ⊎ (left ≡ batch) → doubt_after ≡ left → All (λ (entry : Entry). entry.caller ≡ caller) batch → All (λ (entry : Entry). entry.caller ≡ caller) doubt_after
+lost_or_left caller left batch doubt_after (inl lost) is own = none_of_caller caller doubt_after (is ∙ lost)
+lost_or_left caller left batch doubt_after (inr kept) is own = subst (All (λ (entry : Entry). entry.caller ≡ caller)) (sym (is ∙ kept)) own
+
+doubt_of_call : (store : KeyedStore) (journal doubt : List Entry) (caller : Caller) (call : Call) (used : Used) (after doubt_after : List Entry) (reply : Reply) → Turn store journal doubt caller call used after doubt_after reply → (doubt_after ≡ doubt) ⊎ All (λ (entry : Entry). entry.caller ≡ caller) doubt_after
+doubt_of_call store journal doubt caller call used after doubt_after reply (read_turn _ _ _ l) = inl l.doubt_is
+doubt_of_call store journal doubt caller call used after doubt_after reply (short_read_turn _ _ l) = inl l.doubt_is
+doubt_of_call store journal doubt caller call used after doubt_after reply (unsettled_turn _ _ _ _ l) = inl l.doubt_is
+doubt_of_call store journal doubt caller call used after doubt_after reply (step_turn _ _ _ _ l) = inr (none_of_caller caller doubt_after l.doubt_is)
+doubt_of_call store journal doubt caller call used after doubt_after reply (undrawn_turn _ _ _ _ l) = inr (none_of_caller caller doubt_after l.doubt_is)
+doubt_of_call store journal doubt caller call used after doubt_after reply (uncommitted_turn batch left given _ _ step kept l) = inr (lost_or_left caller left batch doubt_after kept l.doubt_is (step_of_caller store (settled journal doubt) caller call used batch given step))
+doubt_of_call store journal doubt caller call used after doubt_after reply (short_turn _ _ _ l) = inl l.doubt_is
+doubt_of_call store journal doubt caller call used after doubt_after reply (short_settled_turn _ _ l) = inr (none_of_caller caller doubt_after l.doubt_is)
+
+doubt_of_page : (journal doubt : List Entry) (caller : Caller) (owner : ℕ) (records : List SealedRecord) (after doubt_after : List Entry) (given : PageAnswer) → PageTurn journal doubt caller owner records after doubt_after given → (doubt_after ≡ doubt) ⊎ All (λ (entry : Entry). entry.caller ≡ caller) doubt_after
+doubt_of_page journal doubt caller owner records after doubt_after given (unsettled_page _ l _) = inl l.doubt_is
+doubt_of_page journal doubt caller owner records after doubt_after given (taken_page _ _ l _) = inr (none_of_caller caller doubt_after l.doubt_is)
+doubt_of_page journal doubt caller owner records after doubt_after given (refused_page _ _ l _) = inr (none_of_caller caller doubt_after l.doubt_is)
+doubt_of_page journal doubt caller owner records after doubt_after given (uncommitted_page batch left grows _ kept l _) = inr (lost_or_left caller left batch doubt_after kept l.doubt_is (batch_of_caller (settled journal doubt) caller owner records batch grows))
+doubt_of_page journal doubt caller owner records after doubt_after given (short_page l _) = inl l.doubt_is
+doubt_of_page journal doubt caller owner records after doubt_after given (short_settled_page l _) = inr (none_of_caller caller doubt_after l.doubt_is)
+
+doubt_of_turn : (store : KeyedStore) (journal doubt : List Entry) (caller : Caller) (asked : Asked) (used : Used) (after doubt_after : List Entry) (answer : SessionAnswer) → TurnAnswers store journal doubt caller asked used after doubt_after answer → (doubt_after ≡ doubt) ⊎ All (λ (entry : Entry). entry.caller ≡ caller) doubt_after
+doubt_of_turn store journal doubt caller asked used after doubt_after answer (answers_call call reply _ turn _) = doubt_of_call store journal doubt caller call used after doubt_after reply turn
+doubt_of_turn store journal doubt caller asked used after doubt_after answer (answers_bad _ _ _ l _) = inl l.doubt_is
+doubt_of_turn store journal doubt caller asked used after doubt_after answer (answers_page owner records given _ _ turn _) = doubt_of_page journal doubt caller owner records after doubt_after given turn
+doubt_of_turn store journal doubt caller asked used after doubt_after answer (answers_read read given _ _ turn _) = inl (ReadTurn-stands journal doubt read after doubt_after given turn).doubt_is
+doubt_of_turn store journal doubt caller asked used after doubt_after answer (answers_unrouted _ _ _ l _) = inl l.doubt_is
+
+pub turn_adds_own : (store : KeyedStore) (journal doubt : List Entry) (caller : Caller) (asked : Asked) (used : Used) (after doubt_after : List Entry) (answer : SessionAnswer) → TurnAnswers store journal doubt caller asked used after doubt_after answer → AddsOwn journal doubt caller after doubt_after
+turn_adds_own store journal doubt caller asked used after doubt_after answer turn =
+    let turned = answers_are_told store journal doubt caller asked used after doubt_after answer turn in
+    record {
+      settles = turned.settles;
+      commit = turned.commit;
+      after_is = turned.after_is;
+      settles_are = turned.settles_are;
+      of_caller = turned.of_caller;
+      in_doubt = doubt_of_turn store journal doubt caller asked used after doubt_after answer turn;
+    }
+
+-- so it adds nothing of any other pass
+pub turn_adds_no_others : (store : KeyedStore) (journal doubt : List Entry) (caller : Caller) (asked : Asked) (used : Used) (after doubt_after : List Entry) (answer : SessionAnswer) → TurnAnswers store journal doubt caller asked used after doubt_after answer
+    → (number : ℕ) → number ≢ 0 → number ≢ caller.number → (added : List Entry) × (after ≡ journal ++ added) × All (λ entry. is_of number entry ≡ false) added
+turn_adds_no_others store journal doubt caller asked used after doubt_after answer turn number named other =
+    let turned = answers_are_told store journal doubt caller asked used after doubt_after answer turn in (
+      turned.settles ++ turned.commit,
+      turned.after_is,
+      All-append (λ entry. is_of number entry ≡ false) turned.settles turned.commit (turned.quiet number named) (λ k d below. ne_eqb _ number (λ same. other (sym same ∙ ap (λ (c : Caller). c.number) (turned.of_caller k d below)))),
+    )
 
 -- ---- one request more
 
@@ -176,8 +267,8 @@ all_kept number (entry ∷ commit) own =
     ap (λ b. cond b (entry ∷ filter (is_of number) commit) (filter (is_of number) commit)) (own 0 entry (omega arith)) ∙ ap (λ rest. entry ∷ rest) (all_kept number commit (λ k d below. own (suc k) d (omega arith)))
 
 module _ (store : KeyedStore) (seen : List Entry) (number : ℕ) (asked : List Asked) (used : Used) (replies : List SessionReply) (journal more : List Entry) (named : number ≢ 0) (session : Session store seen number asked used replies journal) (others : All (λ entry. is_of number entry ≡ false) more) where
-  grows_by : (a : Asked) (used_here : Used) (after : List Entry) (reply : SessionReply) → Turned store (journal ++ more) (caller_of number (length asked + 1)) a used_here after reply → Session store seen number (asked ++ a ∷ []) (then_used used used_here) (replies ++ reply ∷ []) after
-  grows_by a used_here after reply turned =
+  grows_by : (a : Asked) (used_here : Used) (doubt after : List Entry) (reply : SessionReply) → Turned store (journal ++ more) doubt (caller_of number (length asked + 1)) a used_here after reply → Session store seen number (asked ++ a ∷ []) (then_used used used_here) (replies ++ reply ∷ []) after
+  grows_by a used_here doubt after reply turned =
       let still = session_still store seen number asked used replies journal more session others in
       let longer = serves_still store (journal ++ more) number (turned.settles ++ turned.commit) (length seen) 1 asked used replies still.commits still.serves in
       let there : Serves store after number (length seen) 1 asked used replies still.commits = subst (λ j. Serves store j number (length seen) 1 asked used replies still.commits) (sym turned.after_is) longer in
@@ -194,15 +285,9 @@ module _ (store : KeyedStore) (seen : List Entry) (number : ℕ) (asked : List A
         serves = serves_more store after number (length seen) 1 asked used replies still.commits a used_here reply turned.commit there (omega (arith, last, front, parts)) end
             (subst (λ n. Told store after (caller_of number n) a reply.front used_here reply.answer turned.commit) (omega arith) turned.told);
         own_are = filter-append (is_of number) still.since (turned.settles ++ turned.commit) ∙ ap (λ c. c ++ filter (is_of number) (turned.settles ++ turned.commit)) still.own_are
-            ∙ ap (λ rest. still.commits ++ rest) (filter-append (is_of number) turned.settles turned.commit ∙ ap (λ c. c ++ filter (is_of number) turned.commit) (turned.quiet number named) ∙ own);
+            ∙ ap (λ rest. still.commits ++ rest) (filter-append (is_of number) turned.settles turned.commit ∙ ap (λ c. c ++ filter (is_of number) turned.commit) (none_kept number turned.settles (turned.quiet number named)) ∙ own);
       }
 
-  pub session_grows : (doubt : List Entry) (call : Call) (used_here : Used) (after doubt_after : List Entry) (reply : Reply) → Turn store (journal ++ more) doubt (caller_of number (length asked + 1)) call used_here after doubt_after reply
-      → Session store seen number (asked ++ a_call call ∷ []) (then_used used used_here) (replies ++ call_reply reply ∷ []) after
-  session_grows doubt call used_here after doubt_after reply turn = grows_by (a_call call) used_here after (call_reply reply) (turn_is_told store (journal ++ more) doubt (caller_of number (length asked + 1)) call used_here after doubt_after reply turn)
-
-  pub session_grows_by_page : (doubt : List Entry) (owner : ℕ) (records : List SealedRecord) (after doubt_after : List Entry) (answer : PageAnswer) → PageTurn (journal ++ more) doubt (caller_of number (length asked + 1)) owner records after doubt_after answer
-      → Session store seen number (asked ++ a_page owner records ∷ []) used (replies ++ page_reply (length after) answer ∷ []) after
-  session_grows_by_page doubt owner records after doubt_after answer turn =
-      subst (λ (u : Used). Session store seen number (asked ++ a_page owner records ∷ []) u (replies ++ page_reply (length after) answer ∷ []) after) (then_used-nothing used)
-      (grows_by (a_page owner records) used_nothing after (page_reply (length after) answer) (page_turn_is_told store (journal ++ more) doubt (caller_of number (length asked + 1)) owner records after doubt_after answer turn))
+  pub session_grows : (doubt : List Entry) (one : Asked) (used_here : Used) (after doubt_after : List Entry) (answer : SessionAnswer) → TurnAnswers store (journal ++ more) doubt (caller_of number (length asked + 1)) one used_here after doubt_after answer
+      → Session store seen number (asked ++ one ∷ []) (then_used used used_here) (replies ++ record { front = length after; answer = answer } ∷ []) after
+  session_grows doubt one used_here after doubt_after answer turn = grows_by one used_here doubt after (answered_at after answer) (answers_are_told store (journal ++ more) doubt (caller_of number (length asked + 1)) one used_here after doubt_after answer turn)

@@ -5,3 +5,5 @@ pub mod Turns
 pub mod Reading
 pub mod Telling
 pub mod Passes
+pub mod Books
+pub mod Http

@@ -16,7 +16,7 @@ failures-append one two = ap length (filter-append (λ (turn : TurnItem). turn.f
 begins-itself : (entries : List Entry) → SeenBefore entries entries
 begins-itself entries = ([], sym (append-nil entries))
 
-begins-then : (one two three : List Entry) → SeenBefore one two → SeenBefore two three → SeenBefore one three
+pub begins-then : (one two three : List Entry) → SeenBefore one two → SeenBefore two three → SeenBefore one three
 begins-then one two three first second = (first.0 ++ second.0, second.1 ∙ ap (λ entries. entries ++ second.0) first.1 ∙ append_assoc one first.0 second.0)
 
 pub stays : (pass : Pass) → PassMoves pass pass

@@ -7,7 +7,7 @@ use Rattle.definitions.specs.Calls.{WrongAt}
 use Rattle.step_rules.specs.Calls.{Call}
 use Rattle.request_rules.specs.Requests.{call_kinds, SpellsRequest}
 use Rattle.request_rules.proofs.Requests.{one_call, one_request_place, call_never_wrong, call_or_place}
-use Rattle.session_rules.specs.Sessions.{Asked, a_call, no_call, a_page}
+use Rattle.session_rules.specs.Sessions.{Asked, a_call, no_call, a_page, a_read, unrouted}
 use Rattle.session_rules.specs.Reading.{Reads, ReadsEach}
 use Rattle.session_rules.specs.Laws.{IsReadAs, AreReadAs}
 
@@ -15,10 +15,16 @@ pub one_asked : (payload : List ℕ) (one other : Asked) → IsBytes payload →
 one_asked payload (a_call call) (a_call other) bytes first second = ap a_call (one_call payload call other first second)
 one_asked payload (a_call call) (no_call place) bytes first second = absurd (call_never_wrong payload call place bytes first second)
 one_asked payload (a_call call) (a_page owner records) bytes first second = absurd second
+one_asked payload (a_call call) (a_read read) bytes first second = absurd second
+one_asked payload (a_call call) (unrouted code) bytes first second = absurd second
 one_asked payload (no_call place) (a_call call) bytes first second = absurd (call_never_wrong payload call place bytes second first)
 one_asked payload (no_call place) (no_call other) bytes first second = ap no_call (one_request_place payload place other bytes first second)
 one_asked payload (no_call place) (a_page owner records) bytes first second = absurd second
+one_asked payload (no_call place) (a_read read) bytes first second = absurd second
+one_asked payload (no_call place) (unrouted code) bytes first second = absurd second
 one_asked payload (a_page owner records) other bytes first second = absurd first
+one_asked payload (a_read read) other bytes first second = absurd first
+one_asked payload (unrouted code) other bytes first second = absurd first
 
 read_as : (payload : List ℕ) → IsBytes payload → ((call : Call) × SpellsRequest call payload) ⊎ ((place : ℕ) × WrongAt call_kinds payload place) → IsReadAs payload
 read_as payload bytes (inl found) = record { asked = a_call found.0; reads = found.1; alone = λ other reads. one_asked payload other (a_call found.0) bytes reads found.1 }

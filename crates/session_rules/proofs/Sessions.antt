@@ -14,7 +14,8 @@ use Rattle.view_rules.proofs.Chains.{Has-from_Contains}
 use Rattle.step_rules.specs.Store.{KeyedStore}
 use Rattle.step_rules.specs.Step.{Ready, Step}
 use Rattle.step_rules.specs.Turn.{UsedSome}
-use Rattle.session_rules.specs.Sessions.{Asked, SessionReply, caller_of, Told, told_step, told_disk_fault, told_random_fault, told_no_memory, told_no_memory_to_read, told_bad, told_no_memory_for_bad, told_page, told_page_refused, told_page_disk_fault, told_page_no_memory, Serves, is_of, Session}
+use Rattle.step_rules.specs.ReadTurns.{ReadTurn}
+use Rattle.session_rules.specs.Sessions.{Asked, SessionReply, caller_of, Told, told_step, told_disk_fault, told_random_fault, told_no_memory, told_no_memory_to_read, told_bad, told_no_memory_for_bad, told_page, told_page_refused, told_page_disk_fault, told_page_no_memory, told_read, told_unrouted, told_no_memory_for_unrouted, Serves, is_of, Session}
 
 module _ (store : KeyedStore) (journal : List Entry) (number : ℕ) where
   pub as_many : (from call : ℕ) (asked : List Asked) (used : Used) (replies : List SessionReply) (commits : List Entry) → Serves store journal number from call asked used replies commits → length asked ≡ length replies
@@ -90,6 +91,9 @@ module _ (store : KeyedStore) (journal : List Entry) (number : ℕ) where
         told_page_refused owner records refusal is (ap (λ j. grow j (caller_of number call) owner records) (take-append-le reply.front journal added within) ∙ grows) u a n
     told_still call asked reply used commit within (told_page_disk_fault owner records is u a n) = told_page_disk_fault owner records is u a n
     told_still call asked reply used commit within (told_page_no_memory owner records is u a n) = told_page_no_memory owner records is u a n
+    told_still call asked reply used commit within (told_read read given is turn u a n) = told_read read given is (subst (λ j. ReadTurn j [] read j [] given) (sym (take-append-le reply.front journal added within)) turn) u a n
+    told_still call asked reply used commit within (told_unrouted code is u a n) = told_unrouted code is u a n
+    told_still call asked reply used commit within (told_no_memory_for_unrouted code is u a n) = told_no_memory_for_unrouted code is u a n
 
     pub serves_still : (from call : ℕ) (asked : List Asked) (used : Used) (replies : List SessionReply) (commits : List Entry) → Serves store journal number from call asked used replies commits → Serves store (journal ++ added) number from call asked used replies commits
     serves_still from call [] used [] commits serves = serves

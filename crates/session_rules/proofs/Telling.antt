@@ -13,8 +13,9 @@ use Rattle.step_rules.specs.Step.{Draft, start_draft, record_draft, Unknown, end
 use Rattle.step_rules.specs.Turn.{UsedSome, used_clock, used_bytes}
 use Rattle.request_rules.specs.Requests.{call_kinds}
 use Rattle.request_rules.proofs.Requests.{one_request_place, call_never_wrong}
-use Rattle.session_rules.specs.Sessions.{Asked, a_call, a_page, SessionAnswer, to_call, to_page, SessionReply, Told, told_step, told_disk_fault, told_random_fault, told_no_memory, told_no_memory_to_read, told_bad, told_no_memory_for_bad, told_page, told_page_refused, told_page_disk_fault, told_page_no_memory, Serves, Session, tells_random_fault, told_random_faults, call_reply}
+use Rattle.session_rules.specs.Sessions.{Asked, a_call, SessionAnswer, to_call, SessionReply, Told, told_step, told_disk_fault, told_random_fault, told_no_memory, told_no_memory_to_read, told_bad, told_no_memory_for_bad, told_page, told_page_refused, told_page_disk_fault, told_page_no_memory, told_read, told_unrouted, told_no_memory_for_unrouted, Serves, Session, tells_random_fault, told_random_faults, call_reply}
 use Rattle.session_rules.specs.Reading.{Reads, ReadsEach}
+use Rattle.session_rules.specs.Passes.{tells_disk_fault}
 use Rattle.session_rules.specs.Laws.{TellsBad}
 use Rattle.session_rules.proofs.Sessions.{told_at}
 use Rattle.session_rules.proofs.Reading.{read_at}
@@ -80,24 +81,28 @@ count : Bool → ℕ
 count true = 1
 count false = 0
 
-random_outer : (answer : Answer) → outer answer ≡ false → tells_random_fault (to_call answer) ≡ false
+faults_outer : (answer : Answer) → outer answer ≡ false → (tells_random_fault (to_call answer) ≡ false) × (tells_disk_fault (to_call answer) ≡ false)
 unfolding outer outer_refusal
-random_outer (began _) inner = refl
-random_outer (stored _) inner = refl
-random_outer (hits _) inner = refl
-random_outer (value_is _) inner = refl
-random_outer (keys _) inner = refl
-random_outer (aliases _) inner = refl
-random_outer (places _) inner = refl
-random_outer (refused (too_long _ _)) inner = refl
-random_outer (refused (unknown_id _)) inner = refl
-random_outer (refused (unknown_name _)) inner = refl
-random_outer (refused (full _)) inner = refl
-random_outer (refused random_fault) inner = absurd (true≢false inner)
-random_outer (refused (id_taken _)) inner = refl
-random_outer (refused disk_fault) inner = refl
-random_outer (refused no_memory) inner = refl
-random_outer (refused (bad_request _)) inner = refl
+faults_outer (began _) inner = (refl, refl)
+faults_outer (stored _) inner = (refl, refl)
+faults_outer (hits _) inner = (refl, refl)
+faults_outer (value_is _) inner = (refl, refl)
+faults_outer (keys _) inner = (refl, refl)
+faults_outer (aliases _) inner = (refl, refl)
+faults_outer (places _) inner = (refl, refl)
+faults_outer (refused (too_long _ _)) inner = (refl, refl)
+faults_outer (refused (unknown_id _)) inner = (refl, refl)
+faults_outer (refused (unknown_name _)) inner = (refl, refl)
+faults_outer (refused (full _)) inner = (refl, refl)
+faults_outer (refused random_fault) inner = absurd (true≢false inner)
+faults_outer (refused (id_taken _)) inner = (refl, refl)
+faults_outer (refused disk_fault) inner = absurd (true≢false inner)
+faults_outer (refused no_memory) inner = (refl, refl)
+faults_outer (refused (bad_request _)) inner = (refl, refl)
+
+-- so it tells of no fault
+pub step_tells_none : (store : KeyedStore) (journal : List Entry) (caller : Caller) (call : Call) (used : Used) (after : List Entry) (answer : Answer) → Step store journal caller call used after answer → (tells_random_fault (to_call answer) ≡ false) × (tells_disk_fault (to_call answer) ≡ false)
+step_tells_none store journal caller call used after answer step = faults_outer answer (step_inner store journal caller call used after answer step)
 
 module _ (store : KeyedStore) (journal : List Entry) (caller : Caller) (asked : Asked) (front : ℕ) (used : Used) (answer : SessionAnswer) (commit : List Entry) where
   same_count : (n : ℕ) (other : SessionAnswer) → used.faults ≡ n → answer ≡ other → n ≡ count (tells_random_fault other) → used.faults ≡ count (tells_random_fault answer)
@@ -108,7 +113,7 @@ module _ (store : KeyedStore) (journal : List Entry) (caller : Caller) (asked : 
 
   told_draws : Told store journal caller asked front used answer commit → used.faults ≡ count (tells_random_fault answer)
   unfolding count
-  told_draws (told_step call before given _ _ step is) = same_count 0 (to_call given) (step_draws store before caller call used _ given step) is (sym (ap count (random_outer given (step_inner store before caller call used _ given step))))
+  told_draws (told_step call before given _ _ step is) = same_count 0 (to_call given) (step_draws store before caller call used _ given step) is (sym (ap count (step_tells_none store before caller call used _ given step).0))
   told_draws (told_disk_fault call _ _ some is _) = same_count 0 _ (some_drew store _ call used some) is refl
   told_draws (told_random_fault _ _ _ _ _ u is _) = same_count 1 _ (none_used u) is refl
   told_draws (told_no_memory call _ _ some is _) = same_count 0 _ (some_drew store _ call used some) is refl
@@ -119,6 +124,9 @@ module _ (store : KeyedStore) (journal : List Entry) (caller : Caller) (asked : 
   told_draws (told_page_refused _ _ _ _ _ u is _) = same_count 0 _ (none_used u) is refl
   told_draws (told_page_disk_fault _ _ _ u is _) = same_count 0 _ (none_used u) is refl
   told_draws (told_page_no_memory _ _ _ u is _) = same_count 0 _ (none_used u) is refl
+  told_draws (told_read _ _ _ _ u is _) = same_count 0 _ (none_used u) is refl
+  told_draws (told_unrouted _ _ u is _) = same_count 0 _ (none_used u) is refl
+  told_draws (told_no_memory_for_unrouted _ _ u is _) = same_count 0 _ (none_used u) is refl
 
 counted : (reply : SessionReply) (replies : List SessionReply) → told_random_faults (reply ∷ replies) ≡ count (tells_random_fault reply.answer) + told_random_faults replies
 unfolding count
@@ -142,7 +150,7 @@ module _ (store : KeyedStore) (journal : List Entry) (number : ℕ) where
 
 is_outer : SessionAnswer → Bool
 is_outer (to_call answer) = outer answer
-is_outer (to_page _) = false
+is_outer _ = false
 
 is_bad : SessionAnswer → Bool
 is_bad (to_call (refused (bad_request place))) = true
@@ -161,9 +169,6 @@ module _ (payload : List ℕ) (bytes : IsBytes payload) (store : KeyedStore) (jo
   unfolding is_bad
   other_told other is good place bad = true≢false (sym (ap is_bad bad) ∙ ap is_bad is ∙ good)
 
-  of_page : (owner : ℕ) (records : List _) → asked ≡ a_page owner records → Reads payload asked → TellsBad payload answer
-  of_page owner records is reads = absurd (subst (Reads payload) is reads)
-
   told_is_bad : Told store journal caller asked front used answer commit → Reads payload asked → TellsBad payload answer
   unfolding is_bad is_outer outer outer_refusal place_in
   told_is_bad (told_step call before given is _ step same) reads = of_call call is reads (λ place bad. true≢false (sym (ap is_outer bad) ∙ ap is_outer same ∙ step_inner store before caller call used _ given step))
@@ -178,10 +183,13 @@ module _ (payload : List ℕ) (bytes : IsBytes payload) (store : KeyedStore) (jo
         told = λ other elsewhere. inl (same ∙ ap (λ n. to_call (refused (bad_request n))) (one_request_place payload place other bytes wrong elsewhere));
       }
   told_is_bad (told_no_memory_for_bad place is _ same _) reads = record { only = λ other bad. absurd (other_told _ same refl other bad); told = λ other elsewhere. inr same }
-  told_is_bad (told_page owner records _ is _ _ _ _) reads = of_page owner records is reads
-  told_is_bad (told_page_refused owner records _ is _ _ _ _) reads = of_page owner records is reads
-  told_is_bad (told_page_disk_fault owner records is _ _ _) reads = of_page owner records is reads
-  told_is_bad (told_page_no_memory owner records is _ _ _) reads = of_page owner records is reads
+  told_is_bad (told_page _ _ _ is _ _ _ _) reads = absurd (subst (Reads payload) is reads)
+  told_is_bad (told_page_refused _ _ _ is _ _ _ _) reads = absurd (subst (Reads payload) is reads)
+  told_is_bad (told_page_disk_fault _ _ is _ _ _) reads = absurd (subst (Reads payload) is reads)
+  told_is_bad (told_page_no_memory _ _ is _ _ _) reads = absurd (subst (Reads payload) is reads)
+  told_is_bad (told_read _ _ is _ _ _ _) reads = absurd (subst (Reads payload) is reads)
+  told_is_bad (told_unrouted _ is _ _ _) reads = absurd (subst (Reads payload) is reads)
+  told_is_bad (told_no_memory_for_unrouted _ is _ _ _) reads = absurd (subst (Reads payload) is reads)
 
 pub bad_is_told : (store : KeyedStore) (seen : List Entry) (number : ℕ) (payloads : List (List ℕ)) (asked : List Asked) (used : Used) (replies : List SessionReply) (journal : List Entry) (k : ℕ) (payload : List ℕ) (reply : SessionReply)
     → Session store seen number asked used replies journal → All IsBytes payloads → ReadsEach payloads asked → slice_get payloads k ≡ Some payload → slice_get replies k ≡ Some reply → TellsBad payload reply.answer
@@ -205,6 +213,9 @@ module _ (payload : List ℕ) (store : KeyedStore) (journal : List Entry) (calle
   told_as_call (told_page_refused _ _ _ is _ _ _ _) reads = absurd (subst (Reads payload) is reads)
   told_as_call (told_page_disk_fault _ _ is _ _ _) reads = absurd (subst (Reads payload) is reads)
   told_as_call (told_page_no_memory _ _ is _ _ _) reads = absurd (subst (Reads payload) is reads)
+  told_as_call (told_read _ _ is _ _ _ _) reads = absurd (subst (Reads payload) is reads)
+  told_as_call (told_unrouted _ is _ _ _) reads = absurd (subst (Reads payload) is reads)
+  told_as_call (told_no_memory_for_unrouted _ is _ _ _) reads = absurd (subst (Reads payload) is reads)
 
 module _ (store : KeyedStore) (journal : List Entry) (number : ℕ) where
   pub served_as_calls : (payloads : List (List ℕ)) (from call : ℕ) (asked : List Asked) (used : Used) (replies : List SessionReply) (commits : List Entry) → Serves store journal number from call asked used replies commits → ReadsEach payloads asked → (given : List Reply) × (replies ≡ map call_reply given)

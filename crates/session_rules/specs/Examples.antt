@@ -1,20 +1,24 @@
 -- Worked examples: replies in bytes, with the numbers written out, and two sessions in one journal.
-use Rattle.std.specs.Prelude.{◌≡◌, ℕ, ◌-◌, ◌^◌, pos, negsuc, List, [], ◌∷◌, ◌++◌, codes, Some, None, replicate, true, false}
+use Rattle.std.specs.Prelude.{◌≡◌, ℕ, ◌-◌, ◌^◌, pos, negsuc, List, [], ◌∷◌, ◌++◌, codes, map, Some, None, replicate, true, false, ◌⊎◌}
 use Rattle.definitions.specs.Ids.{made_id}
 use Rattle.definitions.specs.Step.{used_nothing, read_clock, read_and_drew, read_and_failed}
 use Rattle.definitions.specs.Examples.{first_time, ten_bytes, ls}
 use Rattle.record_rules.specs.Records.{SealedRecord, Caller, Entry, Started}
-use Rattle.record_rules.specs.Growth.{PageGap, taken_entry}
+use Rattle.record_rules.specs.Growth.{PageTooLong, PageForked, PageGap, PageFull, taken_entry}
 use Rattle.record_rules.specs.Examples.{kv_record}
 use Rattle.step_rules.specs.Calls.{status_call}
 use Rattle.step_rules.specs.Answers.{too_long, unknown_id, unknown_name, full, random_fault, id_taken, disk_fault, no_memory, bad_request, began, stored, hits, value_is, keys, aliases, places, refused}
 use Rattle.step_rules.specs.Store.{KeyedStore}
 use Rattle.step_rules.specs.PageTurns.{took, page_refused, page_faulted, page_no_memory}
+use Rattle.step_rules.specs.ReadTurns.{status_read, page_read, front_read, told_status, told_page, told_front, read_faulted, read_no_memory}
 use Rattle.step_rules.specs.Examples.{second_time, ls_call, two_records}
 use Rattle.session_rules.specs.Bytes.{reply_bytes}
-use Rattle.session_rules.specs.Sessions.{a_call, no_call, a_page, to_call, to_page, caller_of, Session, told_random_faults}
+use Rattle.session_rules.specs.Sessions.{Asked, a_call, no_call, a_page, a_read, unrouted, SessionAnswer, to_call, to_page, to_read, to_unrouted, caller_of, Session, told_random_faults}
 use Rattle.session_rules.specs.Reading.{Reads, ReadsEach}
+use Rattle.session_rules.specs.Turns.{TurnAnswers}
 use Rattle.session_rules.specs.Passes.{TurnItem, Pass, mine, seen_more, KnowsItself, failures, PassMoves, split_off, joined, disk_faults, TurnsOf}
+use Rattle.session_rules.specs.Books.{Book, BookMoves, Finds, first_pass, turn_between, PassTurn}
+use Rattle.session_rules.specs.Http.{IsHttp, MayFault, response_code, at_fronts, HttpSession}
 
 pub record WorkedReplies : Type 0 where
   pub long_command : reply_bytes (record { front = 0; answer = refused (too_long 1 262145) }) ≡ 0x94 ∷ 0x01 ∷ 0x00 ∷ 0x01 ∷ 0xce ∷ 0x00 ∷ 0x04 ∷ 0x00 ∷ 0x01 ∷ []
@@ -41,22 +45,22 @@ pub record WorkedReplies : Type 0 where
 -- ---- two sessions, of which the second was served first
 
 -- the random bytes 80 to 89
-abbrev pub other_bytes : List ℕ
-other_bytes = 0x80 ∷ 0x81 ∷ 0x82 ∷ 0x83 ∷ 0x84 ∷ 0x85 ∷ 0x86 ∷ 0x87 ∷ 0x88 ∷ 0x89 ∷ []
+abbrev pub high_bytes : List ℕ
+high_bytes = 0x80 ∷ 0x81 ∷ 0x82 ∷ 0x83 ∷ 0x84 ∷ 0x85 ∷ 0x86 ∷ 0x87 ∷ 0x88 ∷ 0x89 ∷ []
 
-abbrev pub other_id : ℕ
-other_id = made_id first_time other_bytes
+abbrev pub high_id : ℕ
+high_id = made_id first_time high_bytes
 
 abbrev pub started_by : (number id timestamp : ℕ) → Entry
 started_by number id timestamp = record { caller = caller_of number 1; event = Started (record ls { id = id; timestamp = timestamp }) }
 
 -- the start of session 2, then that of session 1
 abbrev pub both : List Entry
-both = started_by 2 other_id first_time ∷ started_by 1 (made_id second_time ten_bytes) second_time ∷ []
+both = started_by 2 high_id first_time ∷ started_by 1 (made_id second_time ten_bytes) second_time ∷ []
 
 pub record WorkedSessions : Type 0 where
   pub first : (store : KeyedStore) → Session store [] 1 (a_call ls_call ∷ []) (read_and_drew second_time ten_bytes) (record { front = 2; answer = to_call (began (made_id second_time ten_bytes)) } ∷ []) both
-  pub second : (store : KeyedStore) → Session store [] 2 (a_call ls_call ∷ []) (read_and_drew first_time other_bytes) (record { front = 1; answer = to_call (began other_id) } ∷ []) both
+  pub second : (store : KeyedStore) → Session store [] 2 (a_call ls_call ∷ []) (read_and_drew first_time high_bytes) (record { front = 1; answer = to_call (began high_id) } ∷ []) both
   -- what is no call is told its place, and leaves the journal
   pub no_call_told : (store : KeyedStore) → Session store [] 1 (no_call 14 ∷ []) used_nothing (record { front = 0; answer = to_call (refused (bad_request 14)) } ∷ []) []
   -- or that memory was wanting
@@ -116,6 +120,10 @@ by_first = started_in (record { number = 1; call = 1; settled_for = 0 }) 8
 abbrev pub once_settled : Entry
 once_settled = started_in (record { number = 0; call = 2; settled_for = 1 }) 9
 
+-- the entry of pass 1, had it been in doubt
+abbrev pub first_settled : Entry
+first_settled = started_in (record { number = 0; call = 1; settled_for = 1 }) 8
+
 abbrev pub a_turn : TurnItem
 a_turn = record { found = 1; left = 2; failed = false }
 
@@ -154,3 +162,82 @@ pub record WorkedPass : Type 0 where
       ≡ record { number = 1; seen = by_second ∷ by_first ∷ []; known = 3; turns = a_turn ∷ []; faults = 5; fixed = 0 ∷ 1 ∷ [] }
   pub other_joined : joined (record { number = 3; seen = by_second ∷ by_first ∷ []; known = 3; turns = another_turn ∷ []; faults = 5; fixed = 0 ∷ 1 ∷ [] }) (pass_at (by_second ∷ []))
       ≡ record { number = 3; seen = by_second ∷ by_first ∷ []; known = 3; turns = another_turn ∷ []; faults = 5; fixed = 0 ∷ 1 ∷ [] }
+
+-- ---- a book that two passes share
+
+abbrev pub book_at : List Entry → ℕ → Book
+book_at entries faults = record { entries = entries; faults = faults; fixed = 0 ∷ 1 ∷ [] }
+
+pub record WorkedBook : Type 0 where
+  pub first_is : first_pass (book_at (by_second ∷ []) 4) ≡ record { number = 1; seen = by_second ∷ []; known = 1; turns = []; faults = 4; fixed = 0 ∷ 1 ∷ [] }
+  -- pass 1 finds what it had seen, and behind it what another one put there
+  pub found : Finds (pass_at []) (book_at (by_second ∷ once_settled ∷ []) 5)
+  -- and neither an entry of its own that it hasn't seen, nor a book without what it had seen, with fewer faults or with another fixed part
+  pub own_behind : Finds (pass_at []) (book_at (by_first ∷ []) 4) → ⊥
+  pub unseen : Finds (pass_at (by_second ∷ [])) (book_at [] 4) → ⊥
+  pub uncounted : Finds (pass_at []) (book_at [] 3) → ⊥
+  pub other_book : Finds (pass_at []) (record (book_at [] 4) { fixed = [] }) → ⊥
+  -- a turn in which no fault was counted, and one in which one was
+  pub went_well : turn_between (book_at (by_second ∷ []) 4) (book_at (by_second ∷ by_first ∷ []) 4) ≡ a_turn
+  pub went_wrong : turn_between (book_at (by_second ∷ []) 4) (book_at (by_second ∷ []) 5) ≡ record { found = 1; left = 1; failed = true }
+  -- pass 1 takes the book with an entry of pass 2, puts one of its own behind, and gives it back
+  pub takes : PassTurn (pass_at []) (book_at (by_second ∷ []) 4) (book_at (by_second ∷ by_first ∷ []) 5) (record { number = 1; seen = by_second ∷ by_first ∷ []; known = 2; turns = a_turn ∷ record { found = 1; left = 2; failed = true } ∷ []; faults = 5; fixed = 0 ∷ 1 ∷ [] })
+  -- no turn takes an entry or a fault back, or changes the fixed part
+  pub no_entry_lost : BookMoves (book_at (by_second ∷ []) 4) (book_at [] 4) → ⊥
+  pub no_fault_lost : BookMoves (book_at [] 4) (book_at [] 3) → ⊥
+  pub no_other_part : BookMoves (book_at [] 4) (record (book_at [] 4) { fixed = [] }) → ⊥
+  -- a turn may leave all as it was
+  pub still : BookMoves (book_at (by_second ∷ []) 4) (book_at (by_second ∷ []) 4)
+  -- the turns of a Start and a page, which settle what pass 1 had left in doubt, and of a status of owner 5, which doesn't
+  pub start_in_turn : (store : KeyedStore) → TurnAnswers store [] (by_first ∷ []) (caller_of 2 1) (a_call ls_call) (read_and_drew first_time high_bytes) (first_settled ∷ started_by 2 high_id first_time ∷ []) [] (to_call (began high_id))
+  pub page_in_turn : (store : KeyedStore) → TurnAnswers store [] (by_first ∷ []) (caller_of 1 2) (a_page 5 two_records) used_nothing (first_settled ∷ worker_batch) [] (to_page (took 2))
+  pub status_in_turn : (store : KeyedStore) → TurnAnswers store worker_batch (by_first ∷ []) (caller_of 1 3) (a_read (status_read 5)) used_nothing worker_batch (by_first ∷ []) (to_read (told_status (record { host = 2; tag = codes "kv"; count = 2 } ∷ [])))
+  -- what asks the store nothing is answered in a turn that leaves all, with a commit in doubt too
+  pub bad_in_turn : (store : KeyedStore) → TurnAnswers store [] (by_first ∷ []) (caller_of 1 2) (no_call 14) used_nothing [] (by_first ∷ []) (to_call (refused (bad_request 14)))
+  pub bad_unheld_in_turn : (store : KeyedStore) → TurnAnswers store [] (by_first ∷ []) (caller_of 1 2) (no_call 14) used_nothing [] (by_first ∷ []) (to_call (refused no_memory))
+  pub nowhere_in_turn : (store : KeyedStore) → TurnAnswers store [] (by_first ∷ []) (caller_of 1 2) (unrouted 404) used_nothing [] (by_first ∷ []) (to_unrouted 404)
+  pub unheld_in_turn : (store : KeyedStore) → TurnAnswers store [] (by_first ∷ []) (caller_of 1 2) (unrouted 404) used_nothing [] (by_first ∷ []) (to_unrouted 503)
+  -- and it loses no commit in doubt
+  pub bad_keeps_doubt : (store : KeyedStore) (answer : SessionAnswer) → TurnAnswers store [] (by_first ∷ []) (caller_of 1 2) (no_call 14) used_nothing [] [] answer → ⊥
+  pub nowhere_keeps_doubt : (store : KeyedStore) (answer : SessionAnswer) → TurnAnswers store [] (by_first ∷ []) (caller_of 1 2) (unrouted 404) used_nothing [] [] answer → ⊥
+
+-- ---- a session over HTTP
+
+-- the two records were posted by pass 2, behind a Start of pass 1
+abbrev pub posted : List Entry
+posted = started_by 1 (made_id second_time ten_bytes) second_time ∷ taken_entry (caller_of 2 1) 5 (kv_record 0 1000) ∷ taken_entry (caller_of 2 1) 5 (kv_record 1 1001) ∷ []
+
+abbrev pub http_asked : List Asked
+http_asked = a_page 5 two_records ∷ a_read (status_read 5) ∷ a_read (page_read 5 2 (codes "kv") 1 100) ∷ unrouted 404 ∷ unrouted 401 ∷ a_read (page_read 5 2 (codes "kv") 0 100) ∷ a_read (status_read 5) ∷ []
+
+abbrev pub http_answers : List SessionAnswer
+http_answers = to_page (took 2) ∷ to_read (told_status (record { host = 2; tag = codes "kv"; count = 2 } ∷ [])) ∷ to_read (told_page (kv_record 1 1001 ∷ [])) ∷ to_unrouted 404 ∷ to_unrouted 503 ∷ to_read read_faulted ∷ to_read read_no_memory ∷ []
+
+pub record WorkedHttp : Type 0 where
+  -- A page is posted, a status and a page are got, there is no such path, memory was wanting for a token, the disk failed, and memory again.
+  pub session : (store : KeyedStore) → HttpSession store [] 2 http_asked (3 ∷ 3 ∷ 3 ∷ 3 ∷ 3 ∷ 3 ∷ 3 ∷ []) http_answers posted
+  pub codes_are : map response_code http_answers ≡ Some 200 ∷ Some 200 ∷ Some 200 ∷ Some 404 ∷ Some 503 ∷ Some 500 ∷ Some 503 ∷ []
+  -- the codes of a page that is refused, or fails
+  pub refusals_are : map response_code (to_page (page_refused (PageTooLong 100 0)) ∷ to_page (page_refused (PageForked 0 7)) ∷ to_page (page_refused (PageGap 0 2)) ∷ to_page (page_refused (PageFull (record { what = 3; held = 4096 }))) ∷ to_page page_faulted ∷ to_page page_no_memory ∷ [])
+      ≡ Some 413 ∷ Some 409 ∷ Some 409 ∷ Some 507 ∷ Some 500 ∷ Some 503 ∷ []
+  -- a front is a read too, which no request asks for; a call has no code
+  pub others_are : map response_code (to_read (told_front 3) ∷ to_call (stored 0) ∷ []) ≡ Some 200 ∷ None ∷ []
+  pub no_front : IsHttp (a_read front_read) → ⊥
+  pub no_call_comes : IsHttp (a_call status_call) → ⊥
+  pub no_bytes_come : IsHttp (no_call 0) → ⊥
+  pub refused_before : (IsHttp (unrouted 400) × IsHttp (unrouted 401)) × (IsHttp (unrouted 404) × IsHttp (unrouted 405))
+  pub no_other_code : (code : ℕ) → IsHttp (unrouted code) → ((code ≡ 400) ⊎ (code ≡ 401)) ⊎ ((code ≡ 404) ⊎ (code ≡ 405))
+  -- a fault may be told to what writes and to a page that is read, and to nothing else
+  pub start_may_fault : MayFault (a_call ls_call)
+  pub status_call_may_not : MayFault (a_call status_call) → ⊥
+  pub bad_may_not : MayFault (no_call 0) → ⊥
+  pub post_may_fault : MayFault (a_page 5 two_records)
+  pub page_may_fault : MayFault (a_read (page_read 5 2 (codes "kv") 0 100))
+  pub status_may_not : MayFault (a_read (status_read 5)) → ⊥
+  pub front_may_not : MayFault (a_read front_read) → ⊥
+  pub unrouted_may_not : MayFault (unrouted 404) → ⊥
+  -- each front beside its answer
+  pub beside : at_fronts (1 ∷ 3 ∷ []) (to_unrouted 404 ∷ to_page (took 2) ∷ []) ≡ record { front = 1; answer = to_unrouted 404 } ∷ record { front = 3; answer = to_page (took 2) } ∷ []
+  -- and a page that the disk failed, with a turn that failed
+  pub failed_read_turn : TurnsOf [] (record { front = 1; answer = to_read read_faulted } ∷ []) (record { found = 1; left = 1; failed = true } ∷ [])
+  pub no_failed_read_turn : TurnsOf [] (record { front = 1; answer = to_read read_faulted } ∷ []) (record { found = 1; left = 1; failed = false } ∷ []) → ⊥

@@ -1,6 +1,9 @@
 pub mod Bytes
 pub mod Sessions
 pub mod Reading
+pub mod Turns
 pub mod Passes
+pub mod Books
+pub mod Http
 pub mod Laws
 pub mod Examples

@@ -3,7 +3,8 @@ use Rattle.std.specs.Prelude.{◌≡◌, ℕ, ◌+◌, ◌≤◌, max, List, [],
 use Rattle.record_rules.specs.Records.{Entry}
 use Rattle.step_rules.specs.Answers.{refused, disk_fault}
 use Rattle.step_rules.specs.PageTurns.{page_faulted}
-use Rattle.session_rules.specs.Sessions.{SessionAnswer, to_call, to_page, SessionReply, is_of}
+use Rattle.step_rules.specs.ReadTurns.{read_faulted}
+use Rattle.session_rules.specs.Sessions.{SessionAnswer, to_call, to_page, to_read, SessionReply, is_of}
 
 -- a turn that a pass gave back: how long the journal was when it was taken and when it was given, and whether a fault was counted between
 pub record TurnItem : Type 0 where
@@ -64,10 +65,11 @@ longer one other = if nat_lt (length one) (length other) then other else one
 abbrev pub joined : Pass → Pass → Pass
 joined pass other = record pass { seen = longer pass.seen other.seen; known = max pass.known other.known; faults = max pass.faults other.faults }
 
--- a fault of the disk, told to a call or to a page, and how many replies tell of one
+-- a fault of the disk, told to a call, to a page or to a read, and how many replies tell of one
 abbrev pub tells_disk_fault : SessionAnswer → Bool
 tells_disk_fault (to_call (refused disk_fault)) = true
 tells_disk_fault (to_page page_faulted) = true
+tells_disk_fault (to_read read_faulted) = true
 tells_disk_fault _ = false
 
 abbrev pub disk_faults : List SessionReply → ℕ

@@ -9,29 +9,36 @@ use Rattle.step_rules.specs.Store.{KeyedStore}
 use Rattle.step_rules.specs.Step.{Draft, Ready, Step}
 use Rattle.step_rules.specs.Turn.{UsedSome}
 use Rattle.step_rules.specs.PageTurns.{PageAnswer, took, page_refused, page_faulted, page_no_memory}
+use Rattle.step_rules.specs.ReadTurns.{StoreRead, ReadAnswer, ReadTurn}
 
--- a request: a call, or bytes that are none, with the place of the first wrong item, or a page of records for an owner
+-- a request: a call, or bytes that are none, with the place of the first wrong item; a page of records for an owner, or a read; or a
+-- request of HTTP that is refused before it asks the store anything, with its code
 pub data Asked : Type 0 where
   a_call : Call → Asked
   no_call : (place : ℕ) → Asked
   a_page : (owner : ℕ) → List SealedRecord → Asked
+  a_read : StoreRead → Asked
+  unrouted : (code : ℕ) → Asked
 
--- what a request is answered: as a call, which bytes that are none are too, or as a page
+-- what a request is answered: as a call, which bytes that are none are too, as a page, as a read, or by a code alone
 pub data SessionAnswer : Type 0 where
   to_call : Answer → SessionAnswer
   to_page : PageAnswer → SessionAnswer
+  to_read : ReadAnswer → SessionAnswer
+  to_unrouted : (code : ℕ) → SessionAnswer
 
 -- an answer with the number of entries of the journal at which it was given
 pub record SessionReply : Type 0 where
   pub front : ℕ
   pub answer : SessionAnswer
 
--- the replies to a call and to a page
+-- the reply to a call
 abbrev pub call_reply : Reply → SessionReply
 call_reply reply = record { front = reply.front; answer = to_call reply.answer }
 
-abbrev pub page_reply : (front : ℕ) → PageAnswer → SessionReply
-page_reply front answer = record { front = front; answer = to_page answer }
+-- Over HTTP want of memory is a code (RFC 9110, 15.6.4).
+abbrev pub no_memory_code : ℕ
+no_memory_code = 503
 
 -- the caller of the call of this number of a session
 abbrev pub caller_of : (number call : ℕ) → Caller
@@ -60,6 +67,11 @@ pub data Told (store : KeyedStore) (journal : List Entry) (caller : Caller) (ask
       → Told store journal caller asked front used answer commit
   told_page_disk_fault : (owner : ℕ) (records : List SealedRecord) → asked ≡ a_page owner records → used ≡ used_nothing → answer ≡ to_page page_faulted → commit ≡ [] → Told store journal caller asked front used answer commit
   told_page_no_memory : (owner : ℕ) (records : List SealedRecord) → asked ≡ a_page owner records → used ≡ used_nothing → answer ≡ to_page page_no_memory → commit ≡ [] → Told store journal caller asked front used answer commit
+  -- what a read tells of the journal at the front, or that it failed there
+  told_read : (read : StoreRead) (given : ReadAnswer) → asked ≡ a_read read → ReadTurn (take front journal) [] read (take front journal) [] given → used ≡ used_nothing → answer ≡ to_read given → commit ≡ [] → Told store journal caller asked front used answer commit
+  -- what asks the store nothing
+  told_unrouted : (code : ℕ) → asked ≡ unrouted code → used ≡ used_nothing → answer ≡ to_unrouted code → commit ≡ [] → Told store journal caller asked front used answer commit
+  told_no_memory_for_unrouted : (code : ℕ) → asked ≡ unrouted code → used ≡ used_nothing → answer ≡ to_unrouted no_memory_code → commit ≡ [] → Told store journal caller asked front used answer commit
 
 -- one reply: what was used and committed for it, within what was used and committed from here on
 pub record One (store : KeyedStore) (journal : List Entry) (number from call : ℕ) (asked : Asked) (used : Used) (reply : SessionReply) (commits : List Entry) : Type 0 where

@@ -1,5 +1,6 @@
 //! Sessions: what one of several callers of a store was asked and answered, each at a point of one
-//! journal; passes, which take turns at it; the bytes of replies; and the laws of these words alone.
+//! journal, in frames or over HTTP; passes, which take turns at it; the bytes of replies; and the laws
+//! of these words alone.
 //!
 //! A session names no other one. That sessions of different numbers share one journal and don't
 //! overlap is a law. The words for calls and steps are those of `step_rules`, and those for what a
@@ -8,8 +9,8 @@
 //! Each function has an empty body, and its contract is the law that its name says.
 #![tactic(auto)]
 
-ghost use Rattle.session_rules.specs.Laws.{EachIsAnswered, RepliesAtPoints, PointsFollow, CommitsAreOwn, SessionsDontOverlap, OthersLeaveIt, TurnMakesLonger, PageTurnMakesLonger, SessionBegins, PayloadIsRead, PayloadsAreRead, FramesGetCallReplies, BadRequestIsTold, TurnsFollow, RandomFaultsAreDraws, PassGrowsByItsOwn, PassStays, MovesFollow, PassKnowsItself, DiskFaultsAreCounted, SplitStartsAnew, JoinKeepsBoth};
-ghost use Rattle.session_rules.specs.Examples.{WorkedReplies, WorkedSessions, WorkedPages, WorkedReading, WorkedPass};
+ghost use Rattle.session_rules.specs.Laws.{EachIsAnswered, RepliesAtPoints, PointsFollow, CommitsAreOwn, SessionsDontOverlap, OthersLeaveIt, TurnMakesLonger, SessionBegins, PayloadIsRead, PayloadsAreRead, FramesGetCallReplies, BadRequestIsTold, TurnsFollow, RandomFaultsAreDraws, PassGrowsByItsOwn, PassStays, MovesFollow, PassKnowsItself, DiskFaultsAreCounted, SplitStartsAnew, JoinKeepsBoth, FirstPassFinds, TurnMovesPass, PassFindsAgain, TurnAddsOwn, OthersFindIt, SplitFinds, JoinFinds, GoesBegins, PassGoesOn, JoinGoesOn, DiskFaultsHaveCauses, HttpUsesNothing, RequestsGetResponses};
+ghost use Rattle.session_rules.specs.Examples.{WorkedReplies, WorkedSessions, WorkedPages, WorkedReading, WorkedPass, WorkedBook, WorkedHttp};
 
 /// Each request of a session gets one reply.
 pub fn each_is_answered()
@@ -42,15 +43,10 @@ pub fn others_leave_it()
     ensures { OthersLeaveIt }
 {}
 
-/// A turn makes the session of its pass longer by one call and its reply, whatever others added since
-/// the reply before.
+/// A turn makes the session of its pass longer by one request and its answer, whatever others added since
+/// the reply before: a call, a page, a read, or what asks the store nothing.
 pub fn turn_makes_longer()
     ensures { TurnMakesLonger }
-{}
-
-/// So does a turn with a page: one session may be asked calls and pages, in any order.
-pub fn page_turn_makes_longer()
-    ensures { PageTurnMakesLonger }
 {}
 
 /// A session begins at any journal.
@@ -123,6 +119,78 @@ pub fn a_join_keeps_both()
     ensures { JoinKeepsBoth }
 {}
 
+/// The pass with which a book begins to be shared finds that book, knows of itself, and has committed
+/// nothing, where no entry has its number.
+pub fn the_first_pass_finds_its_book()
+    ensures { FirstPassFinds }
+{}
+
+/// A turn at the book leaves what any call leaves of a pass, and adds one item to its turns, a failed one
+/// only where a fault was counted. And the pass finds the book that it left.
+pub fn a_turn_moves_its_pass()
+    ensures { TurnMovesPass }
+{}
+
+/// A pass that finds a book finds it later too, with all that it had seen and counted, whatever others
+/// put behind: at its next turn, and when it closes.
+pub fn a_pass_finds_its_book_again()
+    ensures { PassFindsAgain }
+{}
+
+/// A turn settles what was in doubt, as entries of no pass, or nothing of it, and puts behind only
+/// entries of its caller; and it leaves in doubt what was in doubt, or entries of its caller.
+pub fn a_turn_adds_its_own()
+    ensures { TurnAddsOwn }
+{}
+
+/// So after a turn of one pass all others that found the book find what it left.
+pub fn others_find_what_a_turn_left()
+    ensures { OthersFindIt }
+{}
+
+/// A pass that is split off finds the book, under a number that no entry of it has.
+pub fn a_split_finds_the_book()
+    ensures { SplitFinds }
+{}
+
+/// Of two passes that find one book each may be joined to the other: nothing that both had seen or
+/// counted is lost, and the joined pass finds the book.
+pub fn a_join_finds_the_book()
+    ensures { JoinFinds }
+{}
+
+/// What a pass was asked and answered begins with nothing, at any pass.
+pub fn a_pass_begins()
+    ensures { GoesBegins }
+{}
+
+/// Where a pass takes a turn in which the store answers a request, the session of the pass and its turns
+/// get longer by that reply.
+pub fn a_turn_of_a_pass_goes_on()
+    ensures { PassGoesOn }
+{}
+
+/// They stay so where another pass of that book is joined to it.
+pub fn a_join_goes_on()
+    ensures { JoinGoesOn }
+{}
+
+/// A fault of the disk is told only to a call that writes, to a page that comes and to a page that is
+/// read.
+pub fn disk_faults_have_causes()
+    ensures { DiskFaultsHaveCauses }
+{}
+
+/// Requests of HTTP use neither the clock nor random bytes.
+pub fn http_uses_nothing()
+    ensures { HttpUsesNothing }
+{}
+
+/// Each request of HTTP gets one response, whose code is 500 exactly where a fault of the disk is told.
+pub fn requests_get_responses()
+    ensures { RequestsGetResponses }
+{}
+
 /// Replies in bytes, worked out.
 pub fn worked_replies()
     ensures { WorkedReplies }
@@ -147,4 +215,16 @@ pub fn worked_reading()
 /// A pass, worked out: which entries are its own, its turns, how it moves, is split and is joined.
 pub fn worked_pass()
     ensures { WorkedPass }
+{}
+
+/// A book that two passes share, worked out: what each finds and leaves, and a turn in which a fault was
+/// counted.
+pub fn worked_book()
+    ensures { WorkedBook }
+{}
+
+/// A session over HTTP, worked out: a page that is posted, a status and a page that are got, a request
+/// without a path, and what is told where the disk fails or memory is wanting.
+pub fn worked_http()
+    ensures { WorkedHttp }
 {}

@@ -125,7 +125,7 @@ none_in_nothing : (r : SealedRecord) → Contains [] r → ⊥
 none_in_nothing r among = let below = among.1 in omega arith
 
 -- the only one of a list is that one
-only_one : (r s : SealedRecord) → Contains (r ∷ []) s → r ≡ s
+pub only_one : (r s : SealedRecord) → Contains (r ∷ []) s → r ≡ s
 only_one r s among = elim (Has-from_Contains (r ∷ []) s among) [
   | inl here ↦ here
   | inr later ↦ absurd later
@@ -135,7 +135,7 @@ only_one r s among = elim (Has-from_Contains (r ∷ []) s among) [
 time_total : IsTotalOrder time_cmp
 time_total = then_total (on_total (λ (r : SealedRecord). r.timestamp) nat_cmp_total) (then_total (on_total (λ (r : SealedRecord). r.host) nat_cmp_total) (on_total (λ (r : SealedRecord). r.idx) nat_cmp_total))
 
-not_after_itself : (r : SealedRecord) → time_cmp r r ≡ Less → ⊥
+pub not_after_itself : (r : SealedRecord) → time_cmp r r ≡ Less → ⊥
 not_after_itself r later = absurd (let turned : Less ≡ ordering_reverse Less = sym later ∙ time_total.antisymm r r ∙ ap ordering_reverse later in cc)
 
 abbrev key_of : Option Payload → List ℕ
@@ -196,7 +196,7 @@ module _ (store : KeyedStore) (r : SealedRecord) (opened : store.opens r ≡ Som
       let same : Some (HistoryCreate ls_ended) ≡ Some (HistoryCreate h) = sym (opens_so s made.among) ∙ made.opened in
       none-some time (ap deleted_time same ∙ deleted)
 
-  command_shown : ShowsHistory store.opens (r ∷ []) ls_ended
+  pub command_shown : ShowsHistory store.opens (r ∷ []) ls_ended
   command_shown = (
     r,
     record {
@@ -383,7 +383,7 @@ drafts = record {
 -- ---- a command that is started, ended and found
 
 -- a page of all that is left
-whole_page : (limit : ℕ) (page : List HistoryRecord) → FitsPage hit_bytes limit page → IsPage hit_bytes limit page page
+pub whole_page : (limit : ℕ) (page : List HistoryRecord) → FitsPage hit_bytes limit page → IsPage hit_bytes limit page page
 whole_page limit page fits = record { rest = []; front = sym (append-nil page); fits = fits; most = λ next others e more. absurd cc }
 
 abbrev no_hits : List HistoryRecord
@@ -421,7 +421,7 @@ module _ (store : KeyedStore) (r : SealedRecord) (opened : store.opens r ≡ Som
     | inr later ↦ absurd later
   ]
 
-  found_of_one : (asked : ScopedQuery) (page : List HistoryRecord) → IsScopedAnswer asked (ls_ended ∷ []) page → SearchAnswer store.opens (r ∷ []) asked page
+  pub found_of_one : (asked : ScopedQuery) (page : List HistoryRecord) → IsScopedAnswer asked (ls_ended ∷ []) page → SearchAnswer store.opens (r ∷ []) asked page
   found_of_one asked page answer = record {
     entries = ls_ended ∷ [];
     listed = record { own = HaveOwnIds-more HistoryRecord (λ h. h.id) [] ls_ended (HaveOwnIds-none HistoryRecord (λ h. h.id)) refl; same = λ h. (is_listed h, λ shown. Contains-from_Has (ls_ended ∷ []) h (inl (only_command h shown))) };

@@ -14,10 +14,10 @@ use Rattle.record_rules.proofs.Spots.{in_place-true}
 
 -- ---- fronts
 
-front_rest : (xs ys : List SealedRecord) → IsFront xs ys → xs ++ drop (length xs) ys ≡ ys
+pub front_rest : (xs ys : List SealedRecord) → IsFront xs ys → xs ++ drop (length xs) ys ≡ ys
 front_rest xs ys front = ap (λ zs. zs ++ drop (length xs) ys) front ∙ take-append-drop (length xs) ys
 
-front_of : (xs rest ys : List SealedRecord) → xs ++ rest ≡ ys → IsFront xs ys
+pub front_of : (xs rest ys : List SealedRecord) → xs ++ rest ≡ ys → IsFront xs ys
 front_of xs rest ys is = sym (take-append_seam xs rest) ∙ ap (take (length xs)) is
 
 pub front_itself : (xs : List SealedRecord) → IsFront xs xs

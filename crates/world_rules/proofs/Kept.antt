@@ -114,7 +114,7 @@ append_holds step makes hosts w node asked new apart holds appends =
 
 -- ---- a page that comes
 
-same_place : (host other : ℕ) (tag other_tag : List ℕ) → ((host ≡ other) × (tag ≡ other_tag)) ⊎ ((host ≢ other) ⊎ (tag ≢ other_tag))
+pub same_place : (host other : ℕ) (tag other_tag : List ℕ) → ((host ≡ other) × (tag ≡ other_tag)) ⊎ ((host ≢ other) ⊎ (tag ≢ other_tag))
 same_place host other tag other_tag =
     elim (cases_eq host other) [
       | inl same ↦ elim (cases_Bool (bytes_eq tag other_tag)) [
@@ -166,7 +166,7 @@ deliver_holds hosts w number node caller new apart holds delivers =
 
 -- ---- a page that is sent
 
-find_place : (xs : List ℕ) (x : ℕ) → ((k : ℕ) × (slice_get xs k ≡ Some x)) ⊎ ((k : ℕ) → slice_get xs k ≡ Some x → ⊥)
+pub find_place : (xs : List ℕ) (x : ℕ) → ((k : ℕ) × (slice_get xs k ≡ Some x)) ⊎ ((k : ℕ) → slice_get xs k ≡ Some x → ⊥)
 find_place [] x = inr (λ k at. none-some x at)
 find_place (y ∷ xs) x =
     elim (cases_eq y x) [
@@ -227,7 +227,7 @@ module _ {Asked : Type 0} (step : ℕ → List Entry → Asked → List Entry �
   happens_holds (Cut event) w new holds (inl whole) = happens_holds event w new holds whole
   happens_holds (Cut event) w new holds (inr lost) = subst (Holds hosts) (sym lost) holds
 
-  leads_holds : (events : List (WorldEvent Asked)) (w new : World) → Holds hosts w → Leads step hosts w events new → Holds hosts new
+  pub leads_holds : (events : List (WorldEvent Asked)) (w new : World) → Holds hosts w → Leads step hosts w events new → Holds hosts new
   leads_holds [] w new holds leads = subst (Holds hosts) (sym leads) holds
   leads_holds (event ∷ events) w new holds leads = leads_holds events leads.0 new (happens_holds event w leads.0 holds leads.1) leads.2
 

@@ -39,7 +39,7 @@ step_made store journal caller call used after answer (append_step now drawn dra
 }
 step_made store journal caller call used after answer (read_step used_is shows stays) = nothing_made journal after stays
 
-store_makes : (store : KeyedStore) → SealsWell store → MakesOwn (store_step store)
+pub store_makes : (store : KeyedStore) → SealsWell store → MakesOwn (store_step store)
 store_makes store well host journal asked after sound stepped =
     let made = step_made (at_host store host) journal asked.caller asked.call asked.used after stepped.0 stepped.2 in
     let kept : Sound after host = Step-sound (at_host store host) journal asked.caller asked.call asked.used after stepped.0 (record { weighs = well.weighs; light = well.light }) stepped.1 sound stepped.2 in

@@ -1,0 +1,119 @@
+-- The worked examples, computed.
+use Rattle.std.proofs.Common.{◌≡◌, ℕ, ◌+◌, inl, inr, List, [], ◌∷◌, None, refl, arith}
+use Rattle.std.specs.Prelude.{codes, replicate, if◌then◌else◌, ◌==◌}
+use Rattle.std.specs.Fmt.{digits}
+use Rattle.std.proofs.lemmas.Option.{none-some}
+use Rattle.std.proofs.lemmas.List.Sorted.{IsPermutation-refl}
+use Rattle.definitions.specs.Journal.{HistoryRecord}
+use Rattle.definitions.proofs.Among.{HaveOwnIds-none}
+use Rattle.payload_rules.specs.Payloads.{HistoryCreate, KvSet}
+use Rattle.record_rules.specs.Records.{Caller, Entry, Local}
+use Rattle.record_rules.specs.Examples.{caller, entry_of}
+use Rattle.step_rules.specs.Calls.{kv_set_call}
+use Rattle.step_rules.specs.Answers.{stored}
+use Rattle.step_rules.specs.Step.{record_draft, kv_set_drafts, append_step}
+use Rattle.step_rules.proofs.Examples.{whole_page}
+use Rattle.world_rules.specs.World.{World, with_journal}
+use Rattle.world_rules.specs.Examples.{command_record}
+use Rattle.rehearsal_rules.specs.Words.{words_for}
+use Rattle.rehearsal_rules.specs.Transfers.{with_taken, Hands, Syncs}
+use Rattle.rehearsal_rules.specs.Rehearsal.{Rehearsal, first_moment, Makes, numbered, FindsFirst, finds_nothing, sets_value, syncs}
+use Rattle.rehearsal_rules.specs.Examples.{open_store, apart, taken, first_value, second_value, WorkedWords, WorkedTransfers, WorkedRehearsal}
+
+pub words : WorkedWords
+words = record { words = refl; ten_bytes = refl; next_bytes = refl; words_drawn = refl; key = refl; three_hosts = refl }
+
+-- ---- transfers
+
+abbrev up_there : World
+up_there = with_taken apart (command_record 1 0 11 ∷ []) 0 (taken (command_record 1 0 11) ∷ [])
+
+abbrev down_here : World → World
+down_here w = with_taken w (command_record 2 0 21 ∷ []) 1 (taken (command_record 2 0 21) ∷ [])
+
+none_left : (callers : List Caller) (new : World) → Hands 1 0 (record { host = 1; tag = codes "history" }) 1 1 callers apart new → new ≡ apart
+none_left [] new hands = hands.1
+none_left (c ∷ callers) new hands = absurd (let less = hands.0 in omega (arith, less))
+
+both_ways : Syncs 1 apart (down_here up_there)
+both_ways = (up_there, (up_there, (caller ∷ [], (omega arith, (taken (command_record 1 0 11) ∷ [], refl, (omega arith, refl)))), (up_there, refl, refl)), (up_there, refl, (down_here up_there, (caller ∷ [], (omega arith, (taken (command_record 2 0 21) ∷ [], refl, (omega arith, refl)))), refl)))
+
+pub transfers : WorkedTransfers
+transfers = record {
+  plan_is = refl;
+  up = up_there;
+  uploads = (up_there, (caller ∷ [], (omega arith, (taken (command_record 1 0 11) ∷ [], refl, (omega arith, refl)))), (up_there, refl, refl));
+  up_has = record { server = refl; node = refl; pages = refl };
+  down = down_here apart;
+  downloads = (apart, refl, (down_here apart, (caller ∷ [], (omega arith, (taken (command_record 2 0 21) ∷ [], refl, (omega arith, refl)))), refl));
+  down_has = record { server = refl; node = refl; pages = refl };
+  both = down_here up_there;
+  syncs_both = both_ways;
+  both_have = record { server = refl; node = refl; pages = refl };
+  row_seven = syncs (down_here up_there) (inl refl) both_ways refl;
+  row_eight = syncs (down_here up_there) (inr refl) both_ways refl;
+  second_only = (omega arith, (taken (command_record 1 1 12) ∷ [], refl, (omega arith, refl)));
+  none_handed = none_left;
+}
+
+-- ---- a whole rehearsal
+
+-- where no record opens a search for all finds nothing
+pub nothing_found : (key : List ℕ) (r : Rehearsal) (host : ℕ) → FindsFirst (open_store None key) r host []
+nothing_found key r host = record {
+  entries = [];
+  listed = record { own = HaveOwnIds-none HistoryRecord (λ h. h.id); same = λ h. (λ among. absurd (let below = among.1 in omega arith), λ shown. absurd (none-some (HistoryCreate h) shown.1.created.opened)) };
+  answer = record { in_order = []; found = IsPermutation-refl []; sorted = λ k d low high. absurd (omega arith); cut = whole_page 1 [] (omega arith, inl (omega arith)) };
+}
+
+-- the moment after one call of host 0, which drew 106 bytes
+abbrev after_one : Rehearsal → List Entry → Rehearsal
+after_one r journal = record { world = with_journal r.world 1 journal; readings = r.readings + 1; drawn = λ other. if other == 0 then r.drawn 0 + words_for 106 else r.drawn other }
+
+abbrev first_set : Rehearsal
+first_set = after_one first_moment (entry_of (Local None first_value) ∷ [])
+
+abbrev both_set : Rehearsal
+both_set = after_one first_set (entry_of (Local None first_value) ∷ entry_of (Local None second_value) ∷ [])
+
+sets_first : Makes (open_store None (replicate 32 0)) 0 first_moment 0 (kv_set_call (codes "n") (numbered (codes "k") 14) (numbered (codes "v") 2)) (stored 0) first_set
+unfolding digits
+sets_first = record {
+  caller = caller;
+  bytes = 106;
+  journal = entry_of (Local None first_value) ∷ [];
+  fits = record { numbers = tt; texts = omega arith };
+  stepped = append_step 1700000000000000000 _ (record_draft None (KvSet (codes "n") (numbered (codes "k") 14) (numbered (codes "v") 2))) refl refl (record { short = refl; drafts = kv_set_drafts _ _ _ refl refl; room = refl }) refl refl refl;
+  becomes = refl;
+}
+
+sets_second : Makes (open_store None (replicate 32 0)) 0 first_set 0 (kv_set_call (codes "n") (numbered (codes "k") 13) (numbered (codes "v") 3)) (stored 1) both_set
+unfolding digits
+sets_second = record {
+  caller = caller;
+  bytes = 106;
+  journal = entry_of (Local None first_value) ∷ entry_of (Local None second_value) ∷ [];
+  fits = record { numbers = tt; texts = omega arith };
+  stepped = append_step 1700000000001000000 _ (record_draft None (KvSet (codes "n") (numbered (codes "k") 13) (numbered (codes "v") 3))) refl refl (record { short = refl; drafts = kv_set_drafts _ _ _ refl refl; room = refl }) refl refl refl;
+  becomes = refl;
+}
+
+abbrev in_the_end : World
+in_the_end = with_taken both_set.world (first_value ∷ second_value ∷ []) 0 (taken first_value ∷ taken second_value ∷ [])
+
+pub rehearsal : WorkedRehearsal
+rehearsal = record {
+  world = in_the_end;
+  rehearsed = record {
+    played = both_set;
+    uploaded = in_the_end;
+    plays = (first_moment, finds_nothing refl (nothing_found (replicate 32 0) first_moment 0) refl, (first_set, sets_value 0 refl sets_first, (both_set, sets_value 1 refl sets_second, refl)));
+    uploads = (in_the_end, (in_the_end, (caller ∷ [], (omega arith, (taken first_value ∷ taken second_value ∷ [], refl, (omega arith, refl)))), refl), refl);
+    downloads = (in_the_end, refl, refl);
+  };
+  of_host = refl;
+  of_server = refl;
+  sent = refl;
+  status_of_host = refl;
+  status_of_server = refl;
+}

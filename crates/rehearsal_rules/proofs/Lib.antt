@@ -1,0 +1,9 @@
+pub mod Words
+pub mod Nodes
+pub mod Leading
+pub mod Reached
+pub mod Counts
+pub mod Levels
+pub mod Alike
+pub mod Examples
+pub mod Rows

@@ -1,0 +1,227 @@
+-- The worked rows, computed.
+use Rattle.std.proofs.Common.{◌≡◌, ℕ, ◌+◌, inl, inr, List, [], ◌∷◌, length, Some, None, refl, sym, ap, subst, arith}
+use Rattle.std.specs.Prelude.{codes, replicate, pos, Option, if◌then◌else◌, ◌==◌}
+use Rattle.std.specs.Fmt.{digits}
+use Rattle.std.specs.declared.cmp.Ordering.TheVariants.{Less}
+use Rattle.std.proofs.lemmas.List.Sorted.{IsPermutation-refl}
+use Rattle.definitions.specs.Ids.{id_text}
+use Rattle.definitions.specs.Journal.{finished}
+use Rattle.definitions.specs.Examples.{ls_ended}
+use Rattle.payload_rules.specs.Payloads.{Payload, HistoryCreate, HistoryDelete, KvSet, AliasSet, AliasDelete}
+use Rattle.record_rules.specs.Records.{SealedRecord, Entry, Started, Local}
+use Rattle.record_rules.specs.Examples.{caller, placed_record, entry_of}
+use Rattle.view_rules.specs.Views.{NamesAlias, ShowsAlias, time_cmp}
+use Rattle.view_rules.proofs.Searches.{search_one}
+use Rattle.step_rules.specs.Calls.{Call, delete_call, kv_set_call, alias_set_call, alias_delete_call, end_call}
+use Rattle.step_rules.specs.Answers.{Answer, began, stored}
+use Rattle.step_rules.specs.Store.{KeyedStore}
+use Rattle.step_rules.specs.Step.{start_draft, record_draft, started_record, start_drafts, end_drafts, delete_drafts, kv_set_drafts, alias_set_drafts, alias_delete_drafts, append_step}
+use Rattle.step_rules.proofs.Examples.{whole_page, only_one, not_after_itself, command_shown, found_of_one}
+use Rattle.world_rules.specs.World.{empty_world, with_journal}
+use Rattle.world_rules.specs.Examples.{command_record}
+use Rattle.rehearsal_rules.specs.Words.{words_for}
+use Rattle.rehearsal_rules.specs.Rehearsal.{Rehearsal, first_moment, Makes, start_of, numbered, FindsFirst, HasName, Plays, runs, deletes, finds_nothing, sets_value, sets_alias, ends_alias, lacks_alias, syncs, crashes}
+use Rattle.rehearsal_rules.specs.Examples.{open_store, said_record, moment_at, one_more, ended, an_alias, WorkedRows}
+use Rattle.rehearsal_rules.proofs.Examples.{nothing_found}
+
+abbrev zeros : List ℕ
+zeros = replicate 32 0
+
+-- ---- a command that starts and ends
+
+abbrev start_id : ℕ
+start_id = 0x018bcfe568007e56971cde355897421e
+
+abbrev started : Entry
+started = entry_of (Started (record { id = 0x018bcfe568007e56971cde355897421e; timestamp = 1700000000000000000; command = codes "c12"; cwd = codes "/"; session = codes "s1"; hostname = codes "h1:u" }))
+
+abbrev finished_there : Entry
+finished_there = entry_of (Local (Some start_id) (said_record 2 (codes "history") 0 0x018bcfe568017f53beddbfbc7b9864f6 1700000000001000000 (codes "c12/s1h1:u12000") (0x19 ∷ 0x32 ∷ [])))
+
+abbrev between : Rehearsal
+between = record { world = with_journal empty_world 2 (started ∷ []); readings = 1; drawn = λ other. if other == 1 then 0 + words_for 10 else 0 }
+
+abbrev ran_there : Rehearsal
+ran_there = record { world = with_journal between.world 2 (started ∷ finished_there ∷ []); readings = 2; drawn = λ other. if other == 1 then between.drawn 1 + words_for 106 else between.drawn other }
+
+starts : Makes (open_store None zeros) 0 first_moment 1 (start_of 1 12) (began start_id) between
+unfolding digits
+starts = record {
+  caller = caller;
+  bytes = 10;
+  journal = started ∷ [];
+  fits = record { numbers = tt; texts = omega arith };
+  stepped = append_step 1700000000000000000 _ (start_draft (codes "c12") (codes "/") (codes "s1") (codes "h1:u")) refl refl (record { short = refl; drafts = start_drafts _ _ _ _ refl refl; room = refl }) refl refl refl;
+  becomes = refl;
+}
+
+ends : Makes (open_store None zeros) 0 between 1 (end_call start_id (pos 12000) (pos 0)) (stored 0) ran_there
+unfolding digits
+ends = record {
+  caller = caller;
+  bytes = 106;
+  journal = started ∷ finished_there ∷ [];
+  fits = record { numbers = (omega arith, omega arith, omega arith); texts = omega arith };
+  stepped = append_step 1700000000001000000 _ (record_draft (Some start_id) (HistoryCreate (finished (started_record start_id 1700000000000000000 (codes "c12") (codes "/") (codes "s1") (codes "h1:u")) (pos 12000) (pos 0)))) refl refl (record { short = refl; drafts = end_drafts start_id _ _ (started_record start_id 1700000000000000000 (codes "c12") (codes "/") (codes "s1") (codes "h1:u")) refl refl refl; room = refl }) refl refl refl;
+  becomes = refl;
+}
+
+-- ---- one call
+
+-- the moment after one call of host 1
+abbrev after_call : List Entry → List Entry → Rehearsal
+after_call journal after = record { world = with_journal (with_journal empty_world 2 journal) 2 after; readings = 3; drawn = λ other. if other == 1 then 16 + words_for 106 else 16 }
+
+abbrev ended_store : Option Payload
+ended_store = Some (HistoryCreate ls_ended)
+
+abbrev alias_store : Option Payload
+alias_store = Some (AliasSet (codes "a12") (codes "v1"))
+
+hit_found : FindsFirst (open_store ended_store zeros) (moment_at (ended ∷ [])) 1 (ls_ended ∷ [])
+hit_found =
+    found_of_one (open_store ended_store zeros) (command_record 2 0 11) refl _ (ls_ended ∷ [])
+    (record { in_order = ls_ended ∷ []; found = IsPermutation-refl (ls_ended ∷ []); sorted = λ k d low high. absurd (omega arith); cut = whole_page 1 (ls_ended ∷ []) (omega arith, inl (omega arith)) })
+
+abbrev hit_gone : List Entry
+hit_gone = one_more (ended ∷ []) (codes "history") 1 (id_text ls_ended.id)
+
+deletes_it : Makes (open_store ended_store zeros) 0 (moment_at (ended ∷ [])) 1 (delete_call ls_ended.id) (stored 1) (after_call (ended ∷ []) hit_gone)
+deletes_it = record {
+  caller = caller;
+  bytes = 106;
+  journal = hit_gone;
+  fits = record { numbers = omega arith; texts = omega arith };
+  stepped = append_step 1700000000002000000 _ (record_draft None (HistoryDelete ls_ended.id)) refl refl (record { short = refl; drafts = delete_drafts ls_ended.id refl (ls_ended, command_shown (open_store ended_store zeros) (command_record 2 0 11) refl, refl) refl; room = refl }) refl refl refl;
+  becomes = refl;
+}
+
+abbrev key_set : List Entry
+key_set = one_more [] (codes "kv") 0 (codes "nk12v5")
+
+sets_it : Makes (open_store None zeros) 0 (moment_at []) 1 (kv_set_call (codes "n") (numbered (codes "k") 12) (numbered (codes "v") 5)) (stored 0) (after_call [] key_set)
+unfolding digits
+sets_it = record {
+  caller = caller;
+  bytes = 106;
+  journal = key_set;
+  fits = record { numbers = tt; texts = omega arith };
+  stepped = append_step 1700000000002000000 _ (record_draft None (KvSet (codes "n") (codes "k12") (codes "v5"))) refl refl (record { short = refl; drafts = kv_set_drafts _ _ _ refl refl; room = refl }) refl refl refl;
+  becomes = refl;
+}
+
+abbrev name_set : List Entry
+name_set = one_more [] (codes "dotfiles-shell-alias") 0 (codes "a12v5")
+
+names_it : Makes (open_store None zeros) 0 (moment_at []) 1 (alias_set_call (numbered (codes "a") 12) (numbered (codes "v") 5)) (stored 0) (after_call [] name_set)
+unfolding digits
+names_it = record {
+  caller = caller;
+  bytes = 106;
+  journal = name_set;
+  fits = record { numbers = tt; texts = omega arith };
+  stepped = append_step 1700000000002000000 _ (record_draft None (AliasSet (codes "a12") (codes "v5"))) refl refl (record { short = refl; drafts = alias_set_drafts _ _ refl refl; room = refl }) refl refl refl;
+  becomes = refl;
+}
+
+-- ---- an alias that is there
+
+abbrev alias_record : SealedRecord
+alias_record = placed_record 2 (codes "dotfiles-shell-alias") 0 11
+
+only_alias : (s : SealedRecord) → NamesAlias (open_store alias_store zeros).opens (alias_record ∷ []) (codes "a12") s → alias_record ≡ s
+only_alias s (inl sets) = only_one alias_record s sets.1.among
+only_alias s (inr ends) = only_one alias_record s ends.among
+
+alias_there : ShowsAlias (open_store alias_store zeros).opens (alias_record ∷ []) (codes "a12") (codes "v1")
+alias_there = (
+  alias_record,
+  record {
+    set = record { among = (0, omega arith, refl); opened = refl };
+    last = λ s names later. not_after_itself alias_record (subst (λ t. time_cmp alias_record t ≡ Less) (sym (only_alias s names)) later);
+  },
+)
+
+abbrev name_gone : List Entry
+name_gone = one_more (an_alias ∷ []) (codes "dotfiles-shell-alias") 1 (codes "a12")
+
+ends_it : Makes (open_store alias_store zeros) 0 (moment_at (an_alias ∷ [])) 1 (alias_delete_call (numbered (codes "a") 12)) (stored 1) (after_call (an_alias ∷ []) name_gone)
+unfolding digits
+ends_it = record {
+  caller = caller;
+  bytes = 106;
+  journal = name_gone;
+  fits = record { numbers = tt; texts = omega arith };
+  stepped = append_step 1700000000002000000 _ (record_draft None (AliasDelete (codes "a12"))) refl refl (record { short = refl; drafts = alias_delete_drafts (codes "a12") refl (codes "v1", alias_there) refl; room = refl }) refl refl refl;
+  becomes = refl;
+}
+
+-- ---- what may not be left
+
+-- no call leaves the number of readings
+call_is_made : (store : KeyedStore) (journal : List Entry) (call : Call) (answer : Answer) → Makes store 0 (moment_at journal) 1 call answer (moment_at journal) → ⊥
+call_is_made store journal call answer makes = let counted : 2 ≡ 3 = ap (λ (r : Rehearsal). r.readings) makes.becomes in absurd (omega (arith, counted))
+
+hit_is_found : FindsFirst (open_store ended_store zeros) (moment_at (ended ∷ [])) 1 [] → ⊥
+hit_is_found none = let many : 1 ≡ 0 = ap length (search_one _ _ _ (ls_ended ∷ []) [] hit_found none) in absurd (omega (arith, many))
+
+not_left : Plays (open_store ended_store zeros) 0 (moment_at (ended ∷ [])) 5 1 3 12 (moment_at (ended ∷ [])) → ⊥
+not_left (runs _ _ _ at _ _) = absurd (omega (arith, at))
+not_left (deletes hit idx _ _ makes) = call_is_made (open_store ended_store zeros) (ended ∷ []) (delete_call hit.id) (stored idx) makes
+not_left (finds_nothing _ none _) = hit_is_found none
+not_left (sets_value _ at _) = absurd (omega (arith, at))
+not_left (sets_alias _ at _) = absurd (omega (arith, at))
+not_left (ends_alias _ at _) = absurd (omega (arith, at))
+not_left (lacks_alias at _ _) = absurd (omega (arith, at))
+not_left (syncs _ (inl at) _ _) = absurd (omega (arith, at))
+not_left (syncs _ (inr at) _ _) = absurd (omega (arith, at))
+not_left (crashes at _) = absurd (omega (arith, at))
+
+alias_not_left : Plays (open_store alias_store zeros) 0 (moment_at (an_alias ∷ [])) 5 1 6 12 (moment_at (an_alias ∷ [])) → ⊥
+unfolding digits
+alias_not_left (runs _ _ _ at _ _) = absurd (omega (arith, at))
+alias_not_left (deletes _ _ at _ _) = absurd (omega (arith, at))
+alias_not_left (finds_nothing at _ _) = absurd (omega (arith, at))
+alias_not_left (sets_value _ at _) = absurd (omega (arith, at))
+alias_not_left (sets_alias _ at _) = absurd (omega (arith, at))
+alias_not_left (ends_alias idx _ makes) = call_is_made (open_store alias_store zeros) (an_alias ∷ []) _ (stored idx) makes
+alias_not_left (lacks_alias _ lacks _) = lacks (codes "v1", alias_there)
+alias_not_left (syncs _ (inl at) _ _) = absurd (omega (arith, at))
+alias_not_left (syncs _ (inr at) _ _) = absurd (omega (arith, at))
+alias_not_left (crashes at _) = absurd (omega (arith, at))
+
+-- ---- all rows
+
+no_alias : (name : List ℕ) → HasName (open_store None zeros) (moment_at []) 1 name → ⊥
+no_alias name named = let below = named.1.1.set.among.1 in absurd (omega arith)
+
+nothing_leaves : (next : Rehearsal) → Plays (open_store None zeros) 0 (moment_at (ended ∷ [])) 5 1 9 12 next → next ≡ moment_at (ended ∷ [])
+nothing_leaves next (runs _ _ _ at _ _) = absurd (omega (arith, at))
+nothing_leaves next (deletes _ _ at _ _) = absurd (omega (arith, at))
+nothing_leaves next (finds_nothing at _ _) = absurd (omega (arith, at))
+nothing_leaves next (sets_value _ at _) = absurd (omega (arith, at))
+nothing_leaves next (sets_alias _ at _) = absurd (omega (arith, at))
+nothing_leaves next (ends_alias _ at _) = absurd (omega (arith, at))
+nothing_leaves next (lacks_alias at _ _) = absurd (omega (arith, at))
+nothing_leaves next (syncs _ (inl at) _ _) = absurd (omega (arith, at))
+nothing_leaves next (syncs _ (inr at) _ _) = absurd (omega (arith, at))
+nothing_leaves next (crashes _ same) = same
+
+pub rows : WorkedRows
+rows = record {
+  ran = ran_there;
+  runs_two = runs start_id 0 between (omega arith) starts ends;
+  ran_journal = refl;
+  ran_readings = refl;
+  ran_words = refl;
+  deletes_hit = record { next = after_call (ended ∷ []) hit_gone; plays = deletes ls_ended 1 refl hit_found deletes_it; journal_is = refl; readings_are = refl; words_are = refl; others_are = refl };
+  deletes_none = finds_nothing refl (nothing_found zeros (moment_at []) 1) refl;
+  hit_stays = not_left;
+  sets_key = record { next = after_call [] key_set; plays = sets_value 0 refl sets_it; journal_is = refl; readings_are = refl; words_are = refl; others_are = refl };
+  sets_name = record { next = after_call [] name_set; plays = sets_alias 0 refl names_it; journal_is = refl; readings_are = refl; words_are = refl; others_are = refl };
+  ends_name = record { next = after_call (an_alias ∷ []) name_gone; plays = ends_alias 1 refl ends_it; journal_is = refl; readings_are = refl; words_are = refl; others_are = refl };
+  ends_none = lacks_alias refl (no_alias (numbered (codes "a") 12)) refl;
+  alias_stays = alias_not_left;
+  crashed = crashes refl refl;
+  crash_leaves = nothing_leaves;
+}

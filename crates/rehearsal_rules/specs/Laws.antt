@@ -1,0 +1,35 @@
+-- The laws of rehearsals, as statements. Each is the contract of the function that tells it.
+use Rattle.std.specs.Prelude.{◌≡◌, ℕ, ◌+◌, ◌%◌, ◌^◌, ◌<◌, ◌≤◌, List}
+use Rattle.record_rules.specs.Journal.{chain, status}
+use Rattle.view_rules.specs.Views.{Opening, viewed}
+use Rattle.view_rules.specs.Laws.{SameViews}
+use Rattle.step_rules.specs.Store.{KeyedStore, SealsWell}
+use Rattle.world_rules.specs.World.{World, WorldEvent, HostsDiffer, Reach}
+use Rattle.world_rules.specs.Stores.{StoreAsked, store_step}
+use Rattle.rehearsal_rules.specs.Words.{nth_word}
+use Rattle.rehearsal_rules.specs.Rehearsal.{key_of, hosts_of, Rehearsed}
+
+-- A word is the first one of the next state, so the words are those of the recurrence.
+abbrev pub WordsFollow : Type 0
+WordsFollow = (state n : ℕ) → nth_word state (n + 1) ≡ nth_word ((state + 0x9e3779b97f4a7c15) % 2 ^ 64) n
+
+-- what holds of the world of each rehearsal with one host at least, whose stores seal well
+abbrev pub InEachRehearsal : ((keyed : List ℕ → KeyedStore) → (seed hosts events : ℕ) → World → Type 0) → Type 0
+InEachRehearsal P = (keyed : List ℕ → KeyedStore) (seed hosts events : ℕ) (w : World) → SealsWell (keyed (key_of seed)) → 0 < hosts → Rehearsed keyed seed hosts events w → P keyed seed hosts events w
+
+-- no two nodes of a rehearsal have one host
+abbrev pub HostsOfDiffer : Type 0
+HostsOfDiffer = (hosts : ℕ) → HostsDiffer (hosts_of hosts)
+
+-- calls of stores, pages and crashes lead to it; so all that holds of such worlds holds of it
+abbrev pub IsReached : (keyed : List ℕ → KeyedStore) → (seed hosts events : ℕ) → World → Type 0
+IsReached keyed seed hosts events w = (happened : List (WorldEvent StoreAsked)) × Reach (store_step (keyed (key_of seed))) (hosts_of hosts) happened w
+
+-- At the end all nodes, the server among them, hold the same chains, of equal status, and show the same, whatever opening a record gives.
+pub record AreAlike (hosts : ℕ) (w : World) (node other : ℕ) : Type 0 where
+  pub chains : (host : ℕ) (tag : List ℕ) → chain (w.journal node) 0 host tag ≡ chain (w.journal other) 0 host tag
+  pub statuses : status (w.journal node) 0 ≡ status (w.journal other) 0
+  pub views : (opens : Opening) → SameViews opens (viewed (w.journal node)) (viewed (w.journal other))
+
+abbrev pub EndAlike : (keyed : List ℕ → KeyedStore) → (seed hosts events : ℕ) → World → Type 0
+EndAlike keyed seed hosts events w = (node other : ℕ) → node ≤ hosts → other ≤ hosts → AreAlike hosts w node other

@@ -1,0 +1,5 @@
+pub mod Words
+pub mod Transfers
+pub mod Rehearsal
+pub mod Laws
+pub mod Examples

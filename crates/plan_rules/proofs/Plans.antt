@@ -1,16 +1,18 @@
 -- A plan is in order, has each step that the counts ask for, and brings both counts of each place to the greater one.
-use Rattle.std.proofs.Common.{◌≡◌, ℕ, ◌<◌, Bool, true, false, cond, ltb, List, [], ◌∷◌, ◌++◌, map, max, Option, Some, None, refl, sym, ap, subst, ◌∙◌, arith, inl, inr, ◌⊎◌}
+use Rattle.std.proofs.Common.{◌≡◌, ℕ, Bool, true, false, cond, ltb, List, [], ◌∷◌, ◌++◌, map, max, Option, Some, None, refl, sym, ap, subst, ◌∙◌, arith, inl, inr}
 use Rattle.std.specs.Prelude.{filter_map, ◌↔◌}
-use Rattle.std.specs.List.{Contains, AllByRecursion, cons_option}
-use Rattle.std.specs.declared.cmp.Ordering.TheVariants.{Less}
-use Rattle.std.proofs.lemmas.Bool.{ltb-true, ltb-false, le-ltb}
+use Rattle.std.specs.List.{list_any, Contains, AllByRecursion, cons_option}
+use Rattle.std.specs.declared.cmp.Ordering.TheVariants.{Less, Equal}
+use Rattle.std.proofs.lemmas.Bool.{cases_Bool, true≢false, or_cases, or_parts, ltb-true, ltb-false, le-ltb}
+use Rattle.std.proofs.lemmas.Cmp.{tied_itself}
+use Rattle.std.proofs.lemmas.List.Folds.{list_any-append}
 use Rattle.std.proofs.lemmas.Option.{same_Some, none-some}
 use Rattle.definitions.proofs.Among.{Among, Among-from_place, Contains-from_Among, InOrder, one_order}
-use Rattle.record_rules.specs.Journal.{ChainPlace, ChainCount, place_cmp, Ascends, count_at}
-use Rattle.record_rules.proofs.Members.{Has}
+use Rattle.record_rules.specs.Journal.{ChainPlace, ChainCount, place_cmp, Ascends, is_count_of, count_at}
+use Rattle.record_rules.proofs.Status.{is_place, place_total, same_place, not_among_later}
 use Rattle.plan_rules.specs.Plans.{PlanStep, Upload, Download, step_place, step_between, places_listed, step_at, plan}
 use Rattle.plan_rules.specs.Laws.{local_end, remote_end, or_count, count_after, Levelled}
-use Rattle.plan_rules.proofs.Places.{place_total, not_before_itself, is_at, is_at-true, is_at-itself, places_ascend, counted_is_listed, counted_is_listed_first}
+use Rattle.plan_rules.proofs.Places.{listed_ascend, any_listed, not_counted}
 
 -- ---- one step
 
@@ -25,15 +27,6 @@ step_is_of_place place m n step e =
     (λ t. let found = rw t at e in ap step_place (sym (same_Some (Upload place n m) step found)))
     (λ f. let e1 = rw f at e in by_test (ltb m n)
     (λ t. let found = rw t at e1 in ap step_place (sym (same_Some (Download place m n) step found)))
-    (λ g. let none = rw g at e1 in absurd (none-some step none)))
-
--- and one of its counts isn't 0
-step_counts : (place : ChainPlace) (m n : ℕ) (step : PlanStep) → step_between place m n ≡ Some step → (0 < m) ⊎ (0 < n)
-step_counts place m n step e =
-    by_test (ltb n m)
-    (λ t. let more = ltb-true n m t in inl (omega arith))
-    (λ f. let e1 = rw f at e in by_test (ltb m n)
-    (λ t. let more = ltb-true m n t in inr (omega arith))
     (λ g. let none = rw g at e1 in absurd (none-some step none)))
 
 no_step_between : (place : ChainPlace) (n : ℕ) → step_between place n n ≡ None
@@ -62,6 +55,9 @@ remote_levels place m n =
 
 -- ---- the steps of places
 
+at_place : (host : ℕ) (tag : List ℕ) (place : ChainPlace) → is_place host tag place ≡ true → place ≡ record { host = host; tag = tag }
+at_place host tag place here = let same = same_place host tag place here in λ i. record { host = same.0 i; tag = same.1 i }
+
 module _ (asks : ChainPlace → Option PlanStep) (own : (place : ChainPlace) (step : PlanStep) → asks place ≡ Some step → step_place step ≡ place) where
   asked_by : (places : List ChainPlace) (step : PlanStep) → Among step (filter_map asks places) → (place : ChainPlace) × (asks place ≡ Some step)
   asked_by [] step m = absurd m
@@ -72,10 +68,13 @@ module _ (asks : ChainPlace → Option PlanStep) (own : (place : ChainPlace) (st
       by (Some first) e (inl same) rest = (place, e ∙ ap Some (sym same))
       by (Some first) e (inr m) rest = rest m
 
-  asked : (places : List ChainPlace) (place : ChainPlace) (step : PlanStep) → Has places place → asks place ≡ Some step → Among step (filter_map asks places)
-  asked [] place step has e = absurd has
-  asked (other ∷ places) place step (inl same) e = let here : asks other ≡ Some step = ap asks same ∙ e in rw here (inl refl)
-  asked (other ∷ places) place step (inr has) e = by (asks other) (asked places place step has e)
+  asked : (places : List ChainPlace) (place : ChainPlace) (step : PlanStep) → list_any (is_place place.host place.tag) places ≡ true → asks place ≡ Some step → Among step (filter_map asks places)
+  asked [] place step has e = absurd (true≢false (sym has))
+  asked (other ∷ places) place step has e =
+      elim (or_cases (is_place place.host place.tag other) (list_any (is_place place.host place.tag) places) has) [
+        | inl here ↦ let found : asks other ≡ Some step = ap asks (at_place place.host place.tag other here) ∙ e in rw found (inl refl)
+        | inr later ↦ by (asks other) (asked places place step later e)
+      ]
     where
       by : (o : Option PlanStep) → Among step (filter_map asks places) → Among step (cons_option o (filter_map asks places))
       by None m = m
@@ -98,67 +97,28 @@ module _ (asks : ChainPlace → Option PlanStep) (own : (place : ChainPlace) (st
       by (Some step) e all rest = (subst (λ (p : ChainPlace). AllByRecursion (λ later. place_cmp p later ≡ Less) (map step_place (filter_map asks places))) (sym (own place step e)) all, rest)
 
   module _ (end_of : PlanStep → Option ℕ) (host : ℕ) (tag : List ℕ) where
-    -- steps of other places leave the count
-    other_step : (place : ChainPlace) (step : PlanStep) (count : ℕ) → asks place ≡ Some step → is_at place host tag ≡ false → cond (is_at (step_place step) host tag) (or_count (end_of step) count) count ≡ count
-    other_step place step count e elsewhere = let off : is_at (step_place step) host tag ≡ false = ap (λ (p : ChainPlace). is_at p host tag) (own place step e) ∙ elsewhere in rw off refl
-
-    abbrev IsElsewhere : ChainPlace → Type 0
-    IsElsewhere place = is_at place host tag ≡ false
-
-    all_elsewhere : (places : List ChainPlace) (count : ℕ) → AllByRecursion IsElsewhere places → count_after end_of (filter_map asks places) host tag count ≡ count
-    all_elsewhere [] count all = refl
-    all_elsewhere (place ∷ places) count all = by (asks place) refl (all_elsewhere places count all.1)
+    -- the step that a place asks for brings its own count to its end, and leaves any other
+    first_end : (place : ChainPlace) (steps : List PlanStep) (count : ℕ) → count_after end_of (cons_option (asks place) steps) host tag count ≡ count_after end_of steps host tag (cond (is_place host tag place) (end_after end_of (asks place) count) count)
+    first_end place steps count = by (asks place) refl
       where
-        by : (o : Option PlanStep) → asks place ≡ o → count_after end_of (filter_map asks places) host tag count ≡ count → count_after end_of (cons_option o (filter_map asks places)) host tag count ≡ count
-        by None e rest = rest
-        by (Some step) e rest = ap (λ (k : ℕ). count_after end_of (filter_map asks places) host tag k) (other_step place step count e all.0) ∙ rest
+        by : (o : Option PlanStep) → asks place ≡ o → count_after end_of (cons_option o steps) host tag count ≡ count_after end_of steps host tag (cond (is_place host tag place) (end_after end_of o count) count)
+        by None e = elim (is_place host tag place) as (λ b. count_after end_of steps host tag count ≡ count_after end_of steps host tag (cond b count count)) [
+          | true ↦ refl
+          | false ↦ refl
+        ]
+        by (Some step) e = ap (λ (p : ChainPlace). count_after end_of steps host tag (cond (is_place host tag p) (or_count (end_of step) count) count)) (own place step e)
 
-    -- where the place asks for nothing its count stays
-    nothing_asked : (places : List ChainPlace) (count : ℕ) → asks (record { host = host; tag = tag }) ≡ None → count_after end_of (filter_map asks places) host tag count ≡ count
-    nothing_asked [] count none = refl
-    nothing_asked (place ∷ places) count none = by (asks place) refl (nothing_asked places count none)
-      where
-        by : (o : Option PlanStep) → asks place ≡ o → count_after end_of (filter_map asks places) host tag count ≡ count → count_after end_of (cons_option o (filter_map asks places)) host tag count ≡ count
-        by None e rest = rest
-        by (Some step) e rest =
-            by_test (is_at place host tag)
-            (λ here. let both : None ≡ Some step = sym none ∙ ap asks (sym (is_at-true place host tag here)) ∙ e in absurd (none-some step both))
-            (λ elsewhere. ap (λ (k : ℕ). count_after end_of (filter_map asks places) host tag k) (other_step place step count e elsewhere) ∙ rest)
-
-    -- the places behind one in order are others
-    later_elsewhere : (place : ChainPlace) (places : List ChainPlace) → place ≡ record { host = host; tag = tag } → AllByRecursion (λ later. place_cmp place later ≡ Less) places → AllByRecursion IsElsewhere places
-    later_elsewhere place [] at all = tt
-    later_elsewhere place (later ∷ places) at all = (
-      by_test (is_at later host tag)
-          (λ here. let same : later ≡ place = is_at-true later host tag here ∙ sym at in absurd (not_before_itself place (subst (λ (p : ChainPlace). place_cmp place p ≡ Less) same all.0)))
-          (λ elsewhere. elsewhere),
-      later_elsewhere place places at all.1,
-    )
-
-    -- a place doesn't come again behind itself
-    before_itself : (place : ChainPlace) (places : List ChainPlace) → place ≡ record { host = host; tag = tag } → Has places (record { host = host; tag = tag }) → AllByRecursion (λ later. place_cmp place later ≡ Less) places → ⊥
-    before_itself place [] at has all = absurd has
-    before_itself place (later ∷ places) at (inl same) all = not_before_itself place (subst (λ (p : ChainPlace). place_cmp place p ≡ Less) (same ∙ sym at) all.0)
-    before_itself place (later ∷ places) at (inr has) all = before_itself place places at has all.1
-
-    -- a step that is asked for brings the count to its end
-    step_asked : (places : List ChainPlace) (count : ℕ) (step : PlanStep) → Ascends places → Has places (record { host = host; tag = tag }) → asks (record { host = host; tag = tag }) ≡ Some step → count_after end_of (filter_map asks places) host tag count ≡ or_count (end_of step) count
-    step_asked [] count step ascends has e = absurd has
-    step_asked (place ∷ places) count step ascends (inl same) e =
-        let here : asks place ≡ Some step = ap asks same ∙ e in
-        let at : step_place step ≡ record { host = host; tag = tag } = own place step here ∙ same in
-        let inside : is_at (step_place step) host tag ≡ true = ap (λ (p : ChainPlace). is_at p host tag) at ∙ is_at-itself (record { host = host; tag = tag }) in
-        let behind = all_elsewhere places (or_count (end_of step) count) (later_elsewhere place places same ascends.0) in
-        let brings : cond (is_at (step_place step) host tag) (or_count (end_of step) count) count ≡ or_count (end_of step) count = rw inside refl in
-        rw here (ap (λ (k : ℕ). count_after end_of (filter_map asks places) host tag k) brings ∙ behind)
-    step_asked (place ∷ places) count step ascends (inr has) e = by (asks place) refl (step_asked places count step ascends.1 has e)
-      where
-        by : (o : Option PlanStep) → asks place ≡ o → count_after end_of (filter_map asks places) host tag count ≡ or_count (end_of step) count → count_after end_of (cons_option o (filter_map asks places)) host tag count ≡ or_count (end_of step) count
-        by None none rest = rest
-        by (Some other) found rest =
-            by_test (is_at place host tag)
-            (λ here. absurd (before_itself place places (is_at-true place host tag here) has ascends.0))
-            (λ elsewhere. ap (λ (k : ℕ). count_after end_of (filter_map asks places) host tag k) (other_step place other count found elsewhere) ∙ rest)
+    -- so the count of each of the places comes to the end that it asks for, and any other stays
+    steps_end : (places : List ChainPlace) (count : ℕ) → Ascends places → count_after end_of (filter_map asks places) host tag count ≡ cond (list_any (is_place host tag) places) (end_after end_of (asks (record { host = host; tag = tag })) count) count
+    steps_end [] count ascends = refl
+    steps_end (place ∷ places) count ascends =
+        first_end place (filter_map asks places) count ∙ steps_end places (cond (is_place host tag place) (end_after end_of (asks place) count) count) ascends.1 ∙ elim (cases_Bool (is_place host tag place)) [
+          | inl here ↦
+              let at = same_place host tag place here in
+              let gone : list_any (is_place host tag) places ≡ false = (λ i. list_any (is_place (sym at.0 i) (sym at.1 i)) places) ∙ not_among_later place places ascends.0 in
+              rw (here, gone) (ap (λ (p : ChainPlace). end_after end_of (asks p) count) (at_place host tag place here))
+          | inr elsewhere ↦ rw elsewhere refl
+        ]
 
 -- ---- plans
 
@@ -166,23 +126,31 @@ module _ (local remote : List ChainCount) where
   own_place : (place : ChainPlace) (step : PlanStep) → step_at local remote place ≡ Some step → step_place step ≡ place
   own_place place step e = step_is_of_place place (count_at local place.host place.tag) (count_at remote place.host place.tag) step e
 
-  -- a place that asks for a step is listed
-  listed : (place : ChainPlace) (step : PlanStep) → step_at local remote place ≡ Some step → Has (places_listed (local ++ remote)) place
-  listed place step e = elim (step_counts place (count_at local place.host place.tag) (count_at remote place.host place.tag) step e) [
-    | inl some ↦ counted_is_listed_first local remote place some
-    | inr some ↦ counted_is_listed local remote place some
-  ]
+  -- the places of both statuses
+  abbrev places : List ChainPlace
+  places = places_listed (local ++ remote)
+
+  -- a place that isn't listed asks for nothing
+  not_listed : (host : ℕ) (tag : List ℕ) → list_any (is_place host tag) places ≡ false → step_at local remote (record { host = host; tag = tag }) ≡ None
+  not_listed host tag none =
+      let parts = or_parts (list_any (is_count_of host tag) local) (list_any (is_count_of host tag) remote) (sym (list_any-append (is_count_of host tag) local remote) ∙ sym (any_listed host tag (local ++ remote)) ∙ none) in
+      λ i. step_between (record { host = host; tag = tag }) (not_counted host tag local parts.0 i) (not_counted host tag remote parts.1 i)
 
   pub plan_ascends : Ascends (map step_place (plan local remote))
-  plan_ascends = asked_ascend (step_at local remote) own_place (places_listed (local ++ remote)) (places_ascend (local ++ remote))
+  plan_ascends = asked_ascend (step_at local remote) own_place places (listed_ascend (local ++ remote))
 
   step_in_plan : (step : PlanStep) → Among step (plan local remote) → step_at local remote (step_place step) ≡ Some step
   step_in_plan step m =
-      let by = asked_by (step_at local remote) own_place (places_listed (local ++ remote)) step m in
+      let by = asked_by (step_at local remote) own_place places step m in
       ap (λ (p : ChainPlace). step_at local remote p) (own_place by.0 step by.1) ∙ by.1
 
   plan_has : (step : PlanStep) → step_at local remote (step_place step) ≡ Some step → Among step (plan local remote)
-  plan_has step e = asked (step_at local remote) own_place (places_listed (local ++ remote)) (step_place step) step (listed (step_place step) step e) e
+  plan_has step e =
+      let place = step_place step in
+      elim (cases_Bool (list_any (is_place place.host place.tag) places)) [
+        | inl listed ↦ asked (step_at local remote) own_place places place step listed e
+        | inr absent ↦ absurd (none-some step (sym (not_listed place.host place.tag absent) ∙ e))
+      ]
 
   pub plan_has_each : (step : PlanStep) → Contains (plan local remote) step ↔ (step_at local remote (step_place step) ≡ Some step)
   plan_has_each step = (
@@ -191,11 +159,11 @@ module _ (local remote : List ChainCount) where
   )
 
   levelled : (end_of : PlanStep → Option ℕ) (host : ℕ) (tag : List ℕ) (count : ℕ) → count_after end_of (plan local remote) host tag count ≡ end_after end_of (step_at local remote (record { host = host; tag = tag })) count
-  levelled end_of host tag count = by (step_at local remote (record { host = host; tag = tag })) refl
-    where
-      by : (o : Option PlanStep) → step_at local remote (record { host = host; tag = tag }) ≡ o → count_after end_of (plan local remote) host tag count ≡ end_after end_of o count
-      by None none = nothing_asked (step_at local remote) own_place end_of host tag (places_listed (local ++ remote)) count none
-      by (Some step) e = step_asked (step_at local remote) own_place end_of host tag (places_listed (local ++ remote)) count step (places_ascend (local ++ remote)) (listed (record { host = host; tag = tag }) step e) e
+  levelled end_of host tag count =
+      steps_end (step_at local remote) own_place end_of host tag places count (listed_ascend (local ++ remote)) ∙ elim (cases_Bool (list_any (is_place host tag) places)) [
+        | inl listed ↦ rw listed refl
+        | inr absent ↦ rw absent (ap (λ (o : Option PlanStep). end_after end_of o count) (sym (not_listed host tag absent)))
+      ]
 
   pub plan_levels : (host : ℕ) (tag : List ℕ) → Levelled local remote host tag
   plan_levels host tag =
@@ -213,7 +181,10 @@ abbrev StandsBefore : PlanStep → PlanStep → Type 0
 StandsBefore x y = place_cmp (step_place x) (step_place y) ≡ Less
 
 strict : (x y : PlanStep) → StandsBefore x y → StandsBefore y x → ⊥
-strict x y less greater = not_before_itself (step_place x) (place_total.trans (step_place x) (step_place y) (step_place x) less greater)
+strict x y less greater =
+    let place = step_place x in
+    let both : Less ≡ Equal = sym (place_total.trans place (step_place y) place less greater) ∙ tied_itself place_total place in
+    cc
 
 all_before : (P : ChainPlace → Type 0) (steps : List PlanStep) → AllByRecursion P (map step_place steps) → (step : PlanStep) → Among step steps → P (step_place step)
 all_before P [] all step m = absurd m

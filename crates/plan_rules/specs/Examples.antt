@@ -20,3 +20,7 @@ pub record WorkedPlans : Type 0 where
   -- by host, then by the bytes of the tag
   pub in_order : plan (counted 2 (codes "kv") 1 ∷ counted 2 (codes "history") 1 ∷ []) (counted 1 (codes "kv") 1 ∷ [])
       ≡ Download (place_of 1 (codes "kv")) 0 1 ∷ Upload (place_of 2 (codes "history")) 0 1 ∷ Upload (place_of 2 (codes "kv")) 0 1 ∷ []
+  -- a chain that is there in part comes down from its end
+  pub partly_there : plan (counted 2 (codes "kv") 3 ∷ []) (counted 2 (codes "kv") 5 ∷ []) ≡ Download (place_of 2 (codes "kv")) 3 5 ∷ []
+  -- the first count of a place holds, and it has one step
+  pub listed_again : plan (counted 1 (codes "kv") 5 ∷ counted 1 (codes "kv") 0 ∷ []) [] ≡ Upload (place_of 1 (codes "kv")) 0 5 ∷ []

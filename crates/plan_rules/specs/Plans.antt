@@ -1,8 +1,8 @@
 -- Which transfers make two stores hold the same, from their statuses. A status is read as a map from a place to the count of
 -- its chain; a place that isn't listed has the count 0.
 use Rattle.std.specs.Prelude.{ℕ, List, [], ◌∷◌, ◌++◌, filter_map, Option, Some, None, nat_lt, if◌then◌else◌}
-use Rattle.std.specs.declared.cmp.Ordering.TheVariants.{Less, Equal, Greater}
-use Rattle.record_rules.specs.Journal.{ChainPlace, ChainCount, place_cmp, count_at}
+use Rattle.std.specs.List.{list_any}
+use Rattle.record_rules.specs.Journal.{ChainPlace, ChainCount, is_count_of, put_in_order, count_at}
 
 -- a transfer of one chain: of the records from the lesser idx to below the greater count
 pub data PlanStep : Type 0 where
@@ -19,19 +19,10 @@ step_place (Download place start end) = place
 abbrev pub step_between : ChainPlace → (local remote : ℕ) → Option PlanStep
 step_between place local remote = if nat_lt remote local then Some (Upload place remote local) else (if nat_lt local remote then Some (Download place local remote) else None)
 
--- the places with one more, in order of host, then tag, unless it is there
-abbrev pub with_place : ChainPlace → List ChainPlace → List ChainPlace
-with_place place [] = place ∷ []
-with_place place (other ∷ places) = elim (place_cmp place other) [
-  | Less ↦ place ∷ other ∷ places
-  | Equal ↦ other ∷ places
-  | Greater ↦ other ∷ with_place place places
-]
-
--- the places of these counts, each once, in order
+-- the place of each count once, in order of host, then tag
 abbrev pub places_listed : List ChainCount → List ChainPlace
 places_listed [] = []
-places_listed (listed ∷ counts) = with_place (record { host = listed.host; tag = listed.tag }) (places_listed counts)
+places_listed (listed ∷ later) = if list_any (is_count_of listed.host listed.tag) later then places_listed later else put_in_order (record { host = listed.host; tag = listed.tag }) (places_listed later)
 
 abbrev pub step_at : (local remote : List ChainCount) → ChainPlace → Option PlanStep
 step_at local remote place = step_between place (count_at local place.host place.tag) (count_at remote place.host place.tag)

@@ -98,7 +98,7 @@ status_counts journal owner host tag = count_is_length (records_of (own_events j
 
 -- ---- in order, and no chain empty
 
-place_total : IsTotalOrder place_cmp
+pub place_total : IsTotalOrder place_cmp
 place_total = then_total (on_total (λ (place : ChainPlace). place.host) nat_cmp_total) (on_total (λ (place : ChainPlace). place.tag) nat_list_cmp_total)
 
 both_equal : (a b : Ordering) → ordering_then a b ≡ Equal → (a ≡ Equal) × (b ≡ Equal)
@@ -179,7 +179,7 @@ status_positive journal owner =
 
 -- ---- the lengths alone make the status
 
-same_place : (host : ℕ) (tag : List ℕ) (place : ChainPlace) → is_place host tag place ≡ true → (place.host ≡ host) × (place.tag ≡ tag)
+pub same_place : (host : ℕ) (tag : List ℕ) (place : ChainPlace) → is_place host tag place ≡ true → (place.host ≡ host) × (place.tag ≡ tag)
 same_place host tag place here =
     let parts = and_parts (place.host == host) (bytes_eq place.tag tag) here in
     (eqb-true place.host host parts.0, (bytes_eq-Decides place.tag tag).0 parts.1)
@@ -196,7 +196,7 @@ less_is_other place other less = false_from_ne_true (is_place place.host place.t
     less_not_equal : Less ≡ Equal → ⊥
     less_not_equal h = cc
 
-not_among_later : (place : ChainPlace) (later : List ChainPlace) → AllByRecursion (λ other. place_cmp place other ≡ Less) later → list_any (is_place place.host place.tag) later ≡ false
+pub not_among_later : (place : ChainPlace) (later : List ChainPlace) → AllByRecursion (λ other. place_cmp place other ≡ Less) later → list_any (is_place place.host place.tag) later ≡ false
 not_among_later place [] all = refl
 not_among_later place (other ∷ later) all = or_from (is_place place.host place.tag other) (list_any (is_place place.host place.tag) later) (less_is_other place other all.0) (not_among_later place later all.1)
 

@@ -92,10 +92,14 @@ counts_of events = map (λ place. record { host = place.host; tag = place.tag; c
 abbrev pub status : List Entry → ℕ → List ChainCount
 status journal owner = counts_of (own_events journal owner)
 
+-- whether the count is of that host and tag
+abbrev pub is_count_of : ℕ → List ℕ → ChainCount → Bool
+is_count_of host tag listed = listed.host == host && bytes_eq listed.tag tag
+
 -- the count that a status tells of a place, 0 where it isn't listed
 abbrev pub count_at : List ChainCount → ℕ → List ℕ → ℕ
 count_at [] host tag = 0
-count_at (listed ∷ counts) host tag = if listed.host == host && bytes_eq listed.tag tag then listed.count else count_at counts host tag
+count_at (listed ∷ counts) host tag = if is_count_of host tag listed then listed.count else count_at counts host tag
 
 -- ---- totals
 

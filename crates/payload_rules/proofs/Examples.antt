@@ -5,7 +5,7 @@ use Rattle.std.specs.Int.{w64}
 use Rattle.std.proofs.lemmas.Str.{IsUtf8-from_is_utf8}
 use Rattle.std.specs.Str.{is_utf8, chars}
 use Rattle.definitions.specs.Ids.{id_text}
-use Rattle.definitions.specs.Spelling.{int_64, TextFits}
+use Rattle.definitions.specs.Spelling.{int_64, str_8, array_16, TextFits}
 use Rattle.definitions.specs.Examples.{ls_ended}
 use Rattle.payload_rules.specs.Items.{bin_8, bin_32, bin_head, shortest_bin, an_integer, a_text, an_array, a_bin}
 use Rattle.payload_rules.specs.Payloads.{Payload, HistoryCreate, KvSet, tag_of, SpellsPayload, PayloadOf, TimeFits, HistoryFits, HistoryTextsFit, written_history, written_payload}
@@ -70,12 +70,16 @@ creation = record {
 -- ---- items
 
 pub items : WorkedItems
+unfolding is_utf8 chars lib.Utf8.encode
 items = record {
   minus_one = refl;
   duration = refl;
   wide_duration = (int_64, record { sfits = omega arith }, refl);
   empty_bin = record { form = bin_8; fits = omega arith; are = refl };
   wide_bin = record { form = bin_32; fits = omega arith; are = refl };
+  wide_text = record { form = str_8; fits = omega arith; utf8 = IsUtf8-from_is_utf8 [] refl; are = refl };
+  wide_array = (array_16, omega arith, refl);
+  wide_held = record { form = bin_32; fits = omega arith; are = refl };
   most_of_8 = λ held e. ap (λ (n : ℕ). bin_head (shortest_bin n) n ++ held) e;
   least_of_16 = λ held e. ap (λ (n : ℕ). bin_head (shortest_bin n) n ++ held) e;
   most_of_16 = λ held e. ap (λ (n : ℕ). bin_head (shortest_bin n) n ++ held) e;

@@ -4,7 +4,7 @@ use Rattle.std.specs.Str.{IsUtf8}
 use Rattle.definitions.specs.Journal.{HistoryRecord}
 use Rattle.definitions.specs.Spelling.{SpellsInteger, TextFits, written_integer}
 use Rattle.definitions.specs.Examples.{ls_ended}
-use Rattle.payload_rules.specs.Items.{SpellsBin, written_bin}
+use Rattle.payload_rules.specs.Items.{SpellsBin, a_text, an_array, a_bin, SpellsItem, written_bin}
 use Rattle.payload_rules.specs.Payloads.{Payload, HistoryCreate, HistoryDelete, KvSet, AliasSet, AliasDelete, tag_of, PayloadFits, PayloadOf, written_history, written_payload, TextsFit}
 
 abbrev pub ls_payload : List ℕ
@@ -29,6 +29,10 @@ pub record WorkedItems : Type 0 where
   -- the empty bin, in one byte of length and in four
   pub empty_bin : SpellsBin [] (0xc4 ∷ 0x00 ∷ [])
   pub wide_bin : SpellsBin [] (0xc6 ∷ 0x00 ∷ 0x00 ∷ 0x00 ∷ 0x00 ∷ [])
+  -- as items a text, an array and a bin stand in wider spellings too
+  pub wide_text : SpellsItem (a_text []) (0xd9 ∷ 0x00 ∷ [])
+  pub wide_array : SpellsItem (an_array 3) (0xdc ∷ 0x00 ∷ 0x03 ∷ [])
+  pub wide_held : SpellsItem (a_bin []) (0xc6 ∷ 0x00 ∷ 0x00 ∷ 0x00 ∷ 0x00 ∷ [])
   -- the most bytes whose length is written in one byte, and in two, and one more
   pub most_of_8 : (held : List ℕ) → length held ≡ 255 → written_bin held ≡ 0xc4 ∷ 0xff ∷ held
   pub least_of_16 : (held : List ℕ) → length held ≡ 256 → written_bin held ≡ 0xc5 ∷ 0x01 ∷ 0x00 ∷ held

@@ -15,5 +15,5 @@ mod payload_laws;
 pub use payload_laws::{
     a_payload_is_spelled_as_one, an_item_is_of_one_kind, bins_are_read_as_spelled,
     no_payload_begins_another, what_is_written_is_spelled, worked_creation, worked_items,
-    worked_payloads,
+    worked_payloads, worked_ranges,
 };

@@ -359,6 +359,7 @@ pub searches : WorkedSearches
 searches = record {
   newest_first = record { in_order = newest; found = turned; sorted = newest_sorted; cut = whole_page hit_bytes 10 newest (omega arith, inr (omega arith)) };
   unique = record { in_order = newest; found = turned; sorted = newest_sorted; cut = whole_page hit_bytes 10 (last_a ∷ only_b ∷ []) (omega arith, inr (omega arith)) };
+  matching = record { in_order = only_b ∷ []; found = IsPermutation-refl (only_b ∷ []); sorted = λ k d low high. absurd (omega arith); cut = whole_page hit_bytes 10 (only_b ∷ []) (omega arith, inl (omega arith)) };
   limit_1 = record { in_order = newest; found = turned; sorted = newest_sorted; cut = record { rest = only_b ∷ []; front = refl; fits = (omega arith, inl (omega arith)); most = λ next others e more. let many = more.0 in omega arith } };
   offset_1 = record { in_order = newest; found = turned; sorted = newest_sorted; cut = whole_page hit_bytes 10 (only_b ∷ []) (omega arith, inl (omega arith)) };
   offset_5 = record { in_order = newest; found = turned; sorted = newest_sorted; cut = page_of_none 10 };

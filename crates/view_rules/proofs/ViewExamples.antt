@@ -2,13 +2,18 @@
 use Rattle.std.proofs.Common.{◌≡◌, ℕ, List, [], ◌∷◌, Some, None, refl, sym, ◌∙◌, ap, subst, arith, inl, inr}
 use Rattle.std.specs.Prelude.{codes, ◌↔◌}
 use Rattle.std.specs.List.{Contains}
+use Rattle.std.proofs.lemmas.List.Sorted.{IsPermutation-refl}
+use Rattle.definitions.specs.Journal.{HistoryRecord}
+use Rattle.definitions.specs.Search.{hit_bytes}
+use Rattle.definitions.proofs.Search.{whole_page}
+use Rattle.definitions.proofs.Among.{HaveOwnIds-none, HaveOwnIds-more}
 use Rattle.std.specs.Cmp.Lexicographic.{slice_cmp}
 use Rattle.std.specs.Ordering.{nat_cmp}
 use Rattle.std.specs.declared.cmp.Ordering.TheVariants.{Less}
 use Rattle.record_rules.specs.Records.{SealedRecord}
 use Rattle.record_rules.proofs.Members.{Has}
-use Rattle.payload_rules.specs.Payloads.{KvSet, AliasSet}
-use Rattle.view_rules.specs.Views.{time_cmp, Dead, by_deletion, by_creation, ShowsKv, NamesAlias, InAliases, ShowsAlias}
+use Rattle.payload_rules.specs.Payloads.{HistoryCreate, KvSet, AliasSet}
+use Rattle.view_rules.specs.Views.{time_cmp, Dead, by_deletion, by_creation, ShowsHistory, ShowsKv, NamesAlias, InAliases, ShowsAlias}
 use Rattle.view_rules.specs.Answers.{Named, IsAbove, IsKey}
 use Rattle.view_rules.specs.Examples.{creation, deletion, history_opens, ended_at, of_host_3, ended_later, ended_earlier, alias_opens, early, late, kv_opens, named, creation_elsewhere, early_elsewhere, alias_elsewhere, WorkedViews}
 use Rattle.view_rules.proofs.Chains.{Has-from_Contains, Contains-from_Has}
@@ -115,6 +120,21 @@ none_left item shown above = ended_hidden item.value (subst (λ (name : List ℕ
     is_g = one_of_two (λ r. alias_opens r ≡ Some (AliasSet item.name item.value) → codes "g" ≡ item.name) ended_later of_host_3 shown.0 shown.1.set.among
         (λ e. absurd cc) (λ e. (alias_of (codes "g") (codes "three") item.name item.value e).0) shown.1.set.opened
 
+-- ---- a command
+
+abbrev ls : HistoryRecord
+ls = ended_at 9 100 (codes "ls") None
+
+ls_of : (h : HistoryRecord) → Some (HistoryCreate ls) ≡ Some (HistoryCreate h) → ls ≡ h
+ls_of h e = cc
+
+ls_from : (h : HistoryRecord) → Has (ls ∷ []) h → ShowsHistory history_opens (creation ∷ []) h
+ls_from h (inl e) = subst (λ (x : HistoryRecord). ShowsHistory history_opens (creation ∷ []) x) e (creation, ls_created)
+ls_from h (inr none) = absurd none
+
+ls_into : (h : HistoryRecord) → ShowsHistory history_opens (creation ∷ []) h → ls ≡ h
+ls_into h shown = one_of_one (λ r. history_opens r ≡ Some (HistoryCreate h) → ls ≡ h) creation shown.0 shown.1.created.among (ls_of h) shown.1.created.opened
+
 pub views : WorkedViews
 views = record {
   same_set = λ r. (λ c. Contains-from_Has (deletion ∷ creation ∷ creation ∷ []) r (two_into_three r (Has-from_Contains (creation ∷ deletion ∷ []) r c)), λ c. Contains-from_Has (creation ∷ deletion ∷ []) r (three_into_two r (Has-from_Contains (deletion ∷ creation ∷ creation ∷ []) r c)));
@@ -126,8 +146,15 @@ views = record {
   other_alias = λ same. let h : ◌≡◌ {A = ℕ} 7 3 = alone alias_elsewhere of_host_3 ((same.aliases (codes "g") (codes "three") of_host_3).0 three_alone).set.among in omega arith;
   key_listed = whole_list 10 (IsKeyOf (codes "n")) [] (named (codes "k") ∷ []) k_same (tt, tt) (omega arith, inl (omega arith));
   no_key_above = whole_list 10 (IsKeyOf (codes "n")) (codes "k") [] (no_names (IsKeyOf (codes "n")) (codes "k") none_above_k) tt (omega arith, inl (omega arith));
+  no_key_fits = record { all = named (codes "k") ∷ []; same = k_same; rises = (tt, tt); cut = record { rest = named (codes "k") ∷ []; front = refl; fits = (omega arith, inl (omega arith)); most = λ next others e more. let many = more.0 in omega arith } };
   no_other_key = whole_list 10 (IsKeyOf (codes "x")) [] [] (no_names (IsKeyOf (codes "x")) [] none_in_x) tt (omega arith, inl (omega arith));
   alias_listed = whole_list 10 (IsAlias of_host_3 ended_earlier) [] (three ∷ []) g_same (tt, tt) (omega arith, inl (omega arith));
   no_alias_above = whole_list 10 (IsAlias of_host_3 ended_earlier) (codes "g") [] (no_names (IsAlias of_host_3 ended_earlier) (codes "g") none_above_g) tt (omega arith, inl (omega arith));
+  no_alias_fits = record { all = three ∷ []; same = g_same; rises = (tt, tt); cut = record { rest = three ∷ []; front = refl; fits = (omega arith, inl (omega arith)); most = λ next others e more. let many = more.0 in omega arith } };
+  command_found = record {
+    entries = ls ∷ [];
+    listed = record { own = HaveOwnIds-more HistoryRecord (λ h. h.id) [] ls (HaveOwnIds-none HistoryRecord (λ h. h.id)) refl; same = λ h. (λ c. ls_from h (Has-from_Contains (ls ∷ []) h c), λ shown. Contains-from_Has (ls ∷ []) h (inl (ls_into h shown))) };
+    answer = record { in_order = ls ∷ []; found = IsPermutation-refl (ls ∷ []); sorted = λ k d low high. absurd (omega arith); cut = whole_page hit_bytes 10 (ls ∷ []) (omega arith, inl (omega arith)) };
+  };
   ended_unlisted = whole_list 10 (IsAlias ended_later of_host_3) [] [] (no_names (IsAlias ended_later of_host_3) [] none_left) tt (omega arith, inl (omega arith));
 }

@@ -150,6 +150,8 @@ pub record WorkedSearches : Type 0 where
   pub newest_first : IsScopedAnswer (search_for of_all false by_prefix [] 0 10) (first_a ∷ only_b ∷ last_a ∷ []) (last_a ∷ only_b ∷ first_a ∷ [])
   -- unique: the newer `a`, then `b`
   pub unique : IsScopedAnswer (search_for of_all true by_prefix [] 0 10) (first_a ∷ only_b ∷ last_a ∷ []) (last_a ∷ only_b ∷ [])
+  -- what doesn't match isn't shown
+  pub matching : IsScopedAnswer (search_for of_all false by_prefix (codes "b") 0 10) (first_a ∷ only_b ∷ last_a ∷ []) (only_b ∷ [])
   pub limit_1 : IsScopedAnswer (search_for of_all true by_prefix [] 0 1) (first_a ∷ only_b ∷ last_a ∷ []) (last_a ∷ [])
   -- the offset is counted after equal commands were dropped
   pub offset_1 : IsScopedAnswer (search_for of_all true by_prefix [] 1 10) (first_a ∷ only_b ∷ last_a ∷ []) (only_b ∷ [])
@@ -213,8 +215,12 @@ pub record WorkedViews : Type 0 where
   -- a key that was set twice is listed once, without a value, and not above itself or in another namespace
   pub key_listed : KvListAnswer kv_opens (late ∷ early ∷ []) (codes "n") [] 10 (named (codes "k") ∷ [])
   pub no_key_above : KvListAnswer kv_opens (late ∷ early ∷ []) (codes "n") (codes "k") 10 []
+  pub no_key_fits : KvListAnswer kv_opens (late ∷ early ∷ []) (codes "n") [] 0 []
   pub no_other_key : KvListAnswer kv_opens (late ∷ early ∷ []) (codes "x") [] 10 []
   -- an alias is listed with its value, and one that was ended isn't
   pub alias_listed : AliasListAnswer alias_opens (of_host_3 ∷ ended_earlier ∷ []) [] 10 (record { name = codes "g"; value = codes "three" } ∷ [])
   pub no_alias_above : AliasListAnswer alias_opens (of_host_3 ∷ ended_earlier ∷ []) (codes "g") 10 []
+  pub no_alias_fits : AliasListAnswer alias_opens (of_host_3 ∷ ended_earlier ∷ []) [] 0 []
+  -- a search shows a command of the view
+  pub command_found : SearchAnswer history_opens (creation ∷ []) (search_for of_all false by_prefix [] 0 10) (ended_at 9 100 (codes "ls") None ∷ [])
   pub ended_unlisted : AliasListAnswer alias_opens (ended_later ∷ of_host_3 ∷ []) [] 10 []

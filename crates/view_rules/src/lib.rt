@@ -18,5 +18,5 @@ pub use view_laws::{
     a_plain_search_is_of_all, a_search_has_one_answer, a_set_key_is_shown, a_set_name_is_shown,
     an_id_has_one_command, equal_chains_have_equal_views, sound_journals_have_own_spots,
     views_depend_on_the_set, worked_aliases, worked_history, worked_keys, worked_lists,
-    worked_searches,
+    worked_searches, worked_views,
 };

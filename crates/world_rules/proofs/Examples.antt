@@ -1,5 +1,5 @@
 -- The worked worlds, event by event.
-use Rattle.std.proofs.Common.{◌≡◌, ℕ, zero, suc, inl, inr, List, [], ◌∷◌, ◌++◌, length, Some, None, refl, sym, ◌∙◌, arith}
+use Rattle.std.proofs.Common.{◌≡◌, ℕ, zero, suc, ◌<◌, inl, inr, List, [], ◌∷◌, ◌++◌, length, Some, None, refl, sym, ◌∙◌, arith}
 use Rattle.std.specs.Prelude.{codes}
 use Rattle.std.proofs.lemmas.Bool.{true≢false}
 use Rattle.std.proofs.lemmas.Option.{none-some, same_Some}
@@ -73,8 +73,11 @@ worked_world =
       of_server = refl;
       of_first = refl;
       of_second = refl;
+      were_sent = refl;
       status_of_server = refl;
       status_of_first = refl;
+      lost = (empty_world, inr refl, refl);
+      no_server_steps = λ other reach. let above : 0 < 0 = reach.1.at_no_server in absurd (omega (arith, above));
     }
 
 pub worked_twins : WorkedTwins

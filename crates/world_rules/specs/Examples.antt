@@ -4,7 +4,7 @@ use Rattle.record_rules.specs.Records.{SealedRecord, Entry, Started, Local}
 use Rattle.record_rules.specs.Journal.{status}
 use Rattle.record_rules.specs.Growth.{PageForked, taken_entry, grow}
 use Rattle.record_rules.specs.Examples.{caller, placed_record, started_ls, entry_of}
-use Rattle.world_rules.specs.World.{HostsDiffer, World, WorldEvent, Append, Send, Deliver, Crash, Cut, AppendsOwn, Reach}
+use Rattle.world_rules.specs.World.{HostsDiffer, World, empty_world, WorldEvent, Append, Send, Deliver, Crash, Cut, AppendsOwn, Reach}
 
 -- a record of this host's chain of commands, and the entry where it was made
 abbrev pub command_record : (host idx id : ℕ) → SealedRecord
@@ -29,8 +29,13 @@ pub record WorkedWorld : Type 0 where
   pub of_server : world.journal 0 ≡ taken_entry caller 0 (command_record 1 0 11) ∷ taken_entry caller 0 (command_record 1 1 12) ∷ []
   pub of_first : world.journal 1 ≡ made_entry 1 0 11 ∷ made_entry 1 1 12 ∷ []
   pub of_second : world.journal 2 ≡ entry_of (Started (started_ls 7)) ∷ made_entry 2 0 21 ∷ taken_entry caller 0 (command_record 1 0 11) ∷ taken_entry caller 0 (command_record 1 1 12) ∷ []
+  pub were_sent : world.sent ≡ (command_record 1 0 11 ∷ []) ∷ (command_record 1 1 12 ∷ []) ∷ (command_record 1 0 11 ∷ command_record 1 1 12 ∷ []) ∷ []
   pub status_of_server : status (world.journal 0) 0 ≡ record { host = 1; tag = codes "history"; count = 2 } ∷ []
   pub status_of_first : status (world.journal 1) 0 ≡ record { host = 1; tag = codes "history"; count = 2 } ∷ []
+  -- a step that a crash cut may be lost whole, too
+  pub lost : Reach AppendsOwn (1 ∷ []) (Cut (Append 1 (made_entry 1 0 11 ∷ [])) ∷ []) empty_world
+  -- and the server makes no step
+  pub no_server_steps : (other : World) → Reach AppendsOwn (1 ∷ []) (Append 0 [] ∷ []) other → ⊥
 
 -- two nodes of host 1 make a record each, and the page of the one is a fork at the other
 abbrev pub twin_schedule : List (WorldEvent (List Entry))

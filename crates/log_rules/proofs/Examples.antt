@@ -159,6 +159,8 @@ bodies = record {
   hundred = record { some = omega arith; few = omega arith; each = all_empty 100; body = omega arith };
   none = λ batch. let h : 1 ≤ 0 = batch.some in omega arith;
   more = λ batch. let h : 101 ≤ 100 = batch.few in omega arith;
+  body_at_most = λ events some few each e. record { some = some; few = few; each = each; body = omega arith };
+  body_above = λ events e batch. let low = batch.body in omega arith;
 }
 
 pub fields : WorkedFields

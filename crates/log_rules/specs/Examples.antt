@@ -1,5 +1,6 @@
 -- Worked examples: a new log, and the log of one started command, byte by byte.
-use Rattle.std.specs.Prelude.{◌≡◌, ℕ, List, [], ◌∷◌, ◌++◌, length, take, drop, replicate, slice_get, codes, Option, Some, None}
+use Rattle.std.specs.Prelude.{◌≡◌, ℕ, ◌≤◌, List, [], ◌∷◌, ◌++◌, length, take, drop, replicate, slice_get, codes, Option, Some, None}
+use Rattle.std.specs.List.{AllByRecursion}
 use Rattle.std.specs.Str.{IsUtf8}
 use Rattle.definitions.specs.Spelling.{TextFits}
 use Rattle.definitions.specs.Journal.{StartedRecord}
@@ -60,6 +61,9 @@ pub record WorkedBodies : Type 0 where
   pub hundred : IsBatch (replicate 100 started_empty)
   pub none : IsBatch [] → ⊥
   pub more : IsBatch (replicate 101 started_empty) → ⊥
+  -- and a body whose length four bytes can tell
+  pub body_at_most : (events : List Event) → 1 ≤ length events → length events ≤ 100 → AllByRecursion HasEventBytes events → length (body_bytes events) ≡ 0xffffffff → IsBatch events
+  pub body_above : (events : List Event) → length (body_bytes events) ≡ 0x100000000 → IsBatch events → ⊥
 
 -- which events have bytes: numbers and texts at their limits, and one above
 pub record WorkedFields : Type 0 where

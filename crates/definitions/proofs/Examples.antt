@@ -475,6 +475,7 @@ matches = record {
   prefix = refl;
   capital = refl;
   not_at_front = refl;
+  at_front = refl;
   within = refl;
   at_end = refl;
   apart = refl;

@@ -309,6 +309,7 @@ pub record WorkedMatches : Type 0 where
   pub prefix : matches_by by_prefix (codes "ls") (codes "LS -l") ≡ true
   pub capital : matches_by by_prefix (codes "L") (codes "ls") ≡ false
   pub not_at_front : matches_by by_prefix (codes "s") (codes "ls") ≡ false
+  pub at_front : matches_by by_substring (codes "ls") (codes "ls -l") ≡ true
   pub within : matches_by by_substring (codes "s -") (codes "ls -l") ≡ true
   pub at_end : matches_by by_substring (codes "-l") (codes "ls -l") ≡ true
   pub apart : matches_by by_substring (codes "l-") (codes "ls -l") ≡ false

@@ -28,15 +28,21 @@ use Rattle.std.proofs.lemmas.Cmp.{then_total, on_total, nat_cmp_total}
 use Rattle.view_rules.specs.Views.{ShowsHistory, Dead, by_deletion, by_creation, ShowsKv, NamesAlias, ShowsAlias, origin_cmp, time_cmp}
 use Rattle.view_rules.specs.Answers.{of_all, ScopedQuery, is_found, IsScopedAnswer, SearchAnswer}
 use Rattle.view_rules.proofs.Chains.{Has-from_Contains, Contains-from_Has}
-use Rattle.step_rules.specs.Calls.{Call, end_call, of_name, of_value, first_long, most_call_bytes}
-use Rattle.step_rules.specs.Answers.{Refusal, unknown_id, id_taken, disk_fault, no_memory, Answer, began, stored, hits, value_is, places, refused, Reply}
+use Rattle.step_rules.specs.Calls.{Call, end_call, kv_list_call, alias_list_call, is_read, of_name, of_value, first_long, most_call_bytes}
+use Rattle.step_rules.specs.Answers.{Refusal, unknown_id, id_taken, disk_fault, no_memory, Answer, began, stored, hits, value_is, keys, aliases, places, refused, Reply}
 use Rattle.step_rules.specs.Store.{Head, KeyedStore, sealed_record, payload_text_bytes, SealsWell}
-use Rattle.step_rules.specs.Step.{Draft, start_draft, record_draft, Drafts, start_drafts, end_drafts, delete_drafts, kv_set_drafts, alias_set_drafts, alias_delete_drafts, Unknown, end_unknown, delete_unknown, alias_unknown, draft_passes, Ready, draws, Step, long_step, unknown_step, full_step, taken_step, append_step, read_step, shows_hits, shows_value, shows_no_value, shows_places}
-use Rattle.step_rules.specs.Turn.{is_refusal, UsedSome, used_clock, used_bytes, Turn, read_turn, short_read_turn, unsettled_turn, undrawn_turn, step_turn, uncommitted_turn, short_turn, short_settled_turn}
+use Rattle.step_rules.specs.Step.{Draft, start_draft, record_draft, Drafts, start_drafts, end_drafts, delete_drafts, kv_set_drafts, alias_set_drafts, alias_delete_drafts, Unknown, end_unknown, delete_unknown, alias_unknown, draft_passes, Ready, draws, Step, long_step, unknown_step, full_step, taken_step, append_step, read_step, Shows, shows_hits, shows_value, shows_no_value, shows_keys, shows_aliases, shows_places}
+use Rattle.step_rules.specs.Turn.{is_refusal, settled, UsedSome, used_clock, used_bytes, Turn, read_turn, short_read_turn, unsettled_turn, undrawn_turn, step_turn, uncommitted_turn, short_turn, short_settled_turn}
 use Rattle.step_rules.specs.PageTurns.{page_faulted, PageTurn, unsettled_page, taken_page, refused_page, uncommitted_page, short_page, short_settled_page}
 use Rattle.step_rules.specs.ReadTurns.{status_read, front_read, read_faulted, read_no_memory, ReadTurn, tells_status, tells_page, tells_front, faults_on_page, wants_memory}
 use Rattle.step_rules.specs.Examples.{end_id, end_head, end_record, end_settled, second_time, third_time, other_bytes, other_id, call_of, ls_call, other_entry, end_entry, OfExample, zeros_store, one_made, second_taken, WorkedStore, WorkedCommand, WorkedTexts, WorkedViews, WorkedDrafts, RunOf, WorkedRun, WorkedAsked, WorkedDoubt, WorkedPageTurns, WorkedReadTurns}
 use Rattle.step_rules.proofs.Following.{seal_bytes, tag_fits}
+use Rattle.step_rules.proofs.Outcomes.{shows_read}
+use Rattle.view_rules.specs.Answers.{Named, IsAbove, IsKey}
+use Rattle.view_rules.proofs.ListExamples.{whole_list}
+use Rattle.record_rules.proofs.Members.{Has}
+use Rattle.std.specs.Cmp.Lexicographic.{slice_cmp}
+use Rattle.std.specs.Ordering.{nat_cmp}
 
 ls_ready : (store : KeyedStore) (journal : List Entry) → draft_passes store journal (start_draft (codes "ls") (codes "/") (codes "s1") (codes "h:u")) ≡ None → Ready store journal ls_call (start_draft (codes "ls") (codes "/") (codes "s1") (codes "h:u"))
 ls_ready store journal room = record { short = refl; drafts = start_drafts _ _ _ _ refl refl; room = room }
@@ -160,9 +166,66 @@ module _ (store : KeyedStore) (r : SealedRecord) (opened : store.opens r ≡ Som
       let keys : codes "k" ≡ codes "other" = ap key_of same in
       cc
 
+module _ (store : KeyedStore) (r : SealedRecord) (opened : store.opens r ≡ Some (KvSet (codes "n") (codes "k") (codes "v"))) where
+  abbrev k_item : Named
+  k_item = record { name = codes "k"; value = [] }
+
+  abbrev IsN : Named → Type 0
+  IsN item = IsKey store.opens (r ∷ []) (codes "n") item
+
+  k_is_key : IsN k_item
+  k_is_key = (refl, (codes "v", shown store r opened))
+
+  name_is : (item : Named) → IsN item → codes "k" ≡ item.name
+  name_is item is =
+      let here = only_one r is.1.1.0 is.1.1.1.set.among in
+      let same : Some (KvSet (codes "n") (codes "k") (codes "v")) ≡ Some (KvSet (codes "n") item.name is.1.0) = sym opened ∙ ap store.opens here ∙ is.1.1.1.set.opened in
+      ap key_of same
+
+  item_is : (item : Named) → IsN item → k_item ≡ item
+  item_is item is = ap (λ name. record { name = name; value = [] }) (name_is item is) ∙ ap (λ value. record { name = item.name; value = value }) (sym is.0)
+
+  k_from : (item : Named) → Has (k_item ∷ []) item → IsN item × IsAbove [] item.name
+  k_from item (inl e) = (subst IsN e k_is_key, inl refl)
+  k_from item (inr none) = absurd none
+
+  k_listed : Shows store (record { caller = call_of 1; event = Local None r } ∷ []) (kv_list_call (codes "n") [] 5) (keys (codes "k" ∷ []))
+  k_listed = shows_keys (codes "n") [] 5 (k_item ∷ []) refl (whole_list 5 IsN [] (k_item ∷ []) (λ item. (λ c. k_from item (Has-from_Contains (k_item ∷ []) item c), λ l. Contains-from_Has (k_item ∷ []) item (inl (item_is item l.0)))) (tt, tt) (omega arith, inl (omega arith))) refl
+
+  none_above : (item : Named) → IsN item → IsAbove (codes "k") item.name → ⊥
+  none_above item is (inl e) = absurd cc
+  none_above item is (inr less) = absurd (let turned : slice_cmp nat_cmp (codes "k") (codes "k") ≡ Less = subst (λ name. slice_cmp nat_cmp (codes "k") name ≡ Less) (sym (name_is item is)) less in cc)
+
+  none_listed : Shows store (record { caller = call_of 1; event = Local None r } ∷ []) (kv_list_call (codes "n") (codes "k") 5) (keys [])
+  none_listed = shows_keys (codes "n") (codes "k") 5 [] refl (whole_list 5 IsN (codes "k") [] (λ item. (λ c. absurd (let below = c.1 in omega arith), λ l. absurd (none_above item l.0 l.1))) tt (omega arith, inl (omega arith))) refl
+
+abbrev name_of : Option Payload → List ℕ
+name_of (Some (AliasSet name value)) = name
+name_of _ = []
+
+module _ (store : KeyedStore) (r : SealedRecord) (opened : store.opens r ≡ Some (AliasSet (codes "g") (codes "v"))) where
+  abbrev IsG : Named → Type 0
+  IsG item = ShowsAlias store.opens (r ∷ []) item.name item.value
+
+  g_is : (item : Named) → IsG item → codes "g" ≡ item.name
+  g_is item is =
+      let here = only_one r is.0 is.1.set.among in
+      let same : Some (AliasSet (codes "g") (codes "v")) ≡ Some (AliasSet item.name item.value) = sym opened ∙ ap store.opens here ∙ is.1.set.opened in
+      ap name_of same
+
+  none_above_g : (item : Named) → IsG item → IsAbove (codes "g") item.name → ⊥
+  none_above_g item is (inl e) = absurd cc
+  none_above_g item is (inr less) = absurd (let turned : slice_cmp nat_cmp (codes "g") (codes "g") ≡ Less = subst (λ name. slice_cmp nat_cmp (codes "g") name ≡ Less) (sym (g_is item is)) less in cc)
+
+  no_alias_listed : Shows store (record { caller = call_of 1; event = Local None r } ∷ []) (alias_list_call (codes "g") 5) (aliases [])
+  no_alias_listed = shows_aliases (codes "g") 5 [] refl (whole_list 5 IsG (codes "g") [] (λ item. (λ c. absurd (let below = c.1 in omega arith), λ l. absurd (none_above_g item l.0 l.1))) tt (omega arith, inl (omega arith))) refl
+
 pub views : WorkedViews
 views = record {
   no_alias = λ store. unknown_step first_time _ refl (alias_unknown (codes "zz") refl (λ named. none_in_nothing named.1.0 named.1.1.set.among) refl) (record { stays = refl; answer_is = refl });
+  a_key = k_listed;
+  no_key_above = none_listed;
+  no_alias_above = no_alias_listed;
   a_value = λ store r opened. read_turn (value_is (Some (codes "v"))) refl (shows_value (codes "n") (codes "k") (codes "v") refl (shown store r opened) refl) (record { journal_is = refl; doubt_is = refl; reply_is = refl });
   no_value = λ store r opened. read_turn (value_is None) refl (shows_no_value (codes "n") (codes "other") refl (not_shown store r opened) refl) (record { journal_is = refl; doubt_is = refl; reply_is = refl });
 }
@@ -337,6 +400,30 @@ room_for_more store drawn well of_example many =
     let light : weight_passed (own_events (ls_entry ∷ end_settled store drawn ∷ []) 0) 136 ≡ None = ap (λ sum. cond (nat_lt most_held_weight (sum + 136)) (Some (record { what = 2; held = sum })) None) (both_weigh store drawn well of_example many) in
     ap (λ o. option_or (entries_passed (own_events (ls_entry ∷ end_settled store drawn ∷ []) 0)) (option_or o (places_passed (own_events (ls_entry ∷ end_settled store drawn ∷ []) 0) None))) light
 
+nothing_read : {other : Used} → used_nothing ≡ other → length other.readings ≡ 1 → ⊥
+nothing_read same one = let none : ◌≡◌ {A = ℕ} 0 1 = ap (λ (u : Used). length u.readings) same ∙ one in omega (arith, none)
+
+write_reads : (store : KeyedStore) (journal : List Entry) (caller : Caller) (call : Call) (after : List Entry) (answer : Answer) → is_read call ≡ false → Step store journal caller call used_nothing after answer → ⊥
+write_reads store journal caller call after answer writes (long_step _ _ e _ _) = nothing_read e refl
+write_reads store journal caller call after answer writes (unknown_step _ _ e _ _) = nothing_read e refl
+write_reads store journal caller call after answer writes (full_step _ _ _ e _ _ _ _) = nothing_read e refl
+write_reads store journal caller call after answer writes (taken_step _ _ _ e _ _ _ _) = nothing_read e refl
+write_reads store journal caller call after answer writes (append_step _ _ _ e _ _ _ _ _) = nothing_read e refl
+write_reads store journal caller call after answer writes (read_step _ shows _) = true≢false (sym (shows_read store journal caller call answer shows) ∙ writes)
+
+write_unread : (store : KeyedStore) (after doubt_after : List Entry) (reply : Reply) → Turn store [] [] (call_of 1) ls_call used_nothing after doubt_after reply → ⊥
+write_unread store after doubt_after reply (read_turn answer _ shows _) = true≢false (sym (shows_read store [] (call_of 1) ls_call answer shows))
+write_unread store after doubt_after reply (short_read_turn reads _ _) = true≢false (sym reads)
+write_unread store after doubt_after reply (unsettled_turn _ _ some _ _) = some refl
+write_unread store after doubt_after reply (step_turn made answer writes step _) = write_reads store [] (call_of 1) ls_call made answer writes step
+write_unread store after doubt_after reply (undrawn_turn _ _ _ e _) = nothing_read e refl
+write_unread store after doubt_after reply (uncommitted_turn batch _ answer writes _ step _ _) = write_reads store [] (call_of 1) ls_call batch answer writes step
+write_unread store after doubt_after reply (short_turn _ _ e _) = nothing_read e refl
+write_unread store after doubt_after reply (short_settled_turn _ some _) = clock_was_read store [] ls_call used_nothing some refl
+
+end_ready_behind : Ready zeros_store (settled [] (ls_entry ∷ [])) (end_call first_id (pos 1000) (pos 0)) (record_draft (Some first_id) (HistoryCreate ls_ended))
+end_ready_behind = record { short = refl; drafts = end_drafts first_id (pos 1000) (pos 0) ls refl refl refl; room = refl }
+
 pub doubt : WorkedDoubt
 doubt = record {
   in_doubt = λ store drawn of_example many. uncommitted_turn (end_entry store drawn ∷ []) (end_entry store drawn ∷ []) (stored 0) refl refl (ls_ends store drawn (call_of 2) of_example many) (inr refl) (record { journal_is = refl; doubt_is = refl; reply_is = refl });
@@ -351,6 +438,9 @@ doubt = record {
   then_shown = λ store drawn of_example. read_turn (places (record { host = 1; tag = history_tag; count = 1 } ∷ [])) refl (shows_places refl (ap places (sym (chain_told store drawn of_example)))) (record { journal_is = refl; doubt_is = refl; reply_is = refl });
   shown_behind = λ store drawn of_example. read_turn (places (record { host = 1; tag = history_tag; count = 1 } ∷ [])) refl (shows_places refl (ap places (sym (chain_behind store drawn of_example)))) (record { journal_is = refl; doubt_is = refl; reply_is = refl });
   stays_in_doubt = λ store drawn. unsettled_turn second_time refl (λ e. cc) refl (record { journal_is = refl; doubt_is = refl; reply_is = refl });
+  undrawn_behind = undrawn_turn second_time (record_draft (Some first_id) (HistoryCreate ls_ended)) end_ready_behind refl (record { journal_is = refl; doubt_is = refl; reply_is = refl });
+  short_behind = short_settled_turn refl (used_bytes second_time (record_draft (Some first_id) (HistoryCreate ls_ended)) (replicate 106 0) end_ready_behind refl refl) (record { journal_is = refl; doubt_is = refl; reply_is = refl });
+  short_unread = write_unread;
   not_drawn = λ store. undrawn_turn first_time _ (ls_ready store [] refl) refl (record { journal_is = refl; doubt_is = refl; reply_is = refl });
   again = λ store drawn of_example many. step_turn (ls_entry ∷ record { caller = call_of 3; event = Local (Some first_id) (end_record store drawn) } ∷ []) (stored 0) refl (ls_ends store drawn (call_of 3) of_example many) (record { journal_is = refl; doubt_is = refl; reply_is = refl });
   short_read = λ store drawn. short_read_turn refl refl (record { journal_is = refl; doubt_is = refl; reply_is = refl });

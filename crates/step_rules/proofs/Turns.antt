@@ -1,15 +1,16 @@
 -- What a turn leaves.
 use Rattle.std.proofs.Common.{◌≡◌, ℕ, true, false, cond, ◌⊎◌, inl, inr, List, [], ◌∷◌, ◌++◌, length, map, filter, refl, sym, ◌∙◌, ap, subst, append_assoc}
 use Rattle.std.specs.Prelude.{All, slice_get, take, IsTrue, ◌==◌}
+use Rattle.std.proofs.lemmas.Bool.{true≢false}
 use Rattle.std.proofs.lemmas.List.{append-nil, map-append}
-use Rattle.definitions.specs.Step.{Used}
+use Rattle.definitions.specs.Step.{Used, used_nothing}
 use Rattle.record_rules.specs.Records.{Caller, Entry}
 use Rattle.record_rules.specs.Journal.{event_owner, owned_by, events_of, own_events, records_of, in_place, IsNumbered, EventFits, IsOfHost, TotalsFit, held_of, is_running, Sound}
-use Rattle.step_rules.specs.Calls.{Call, CallFits}
+use Rattle.step_rules.specs.Calls.{Call, CallFits, is_read}
 use Rattle.step_rules.specs.Answers.{Answer, Reply}
 use Rattle.step_rules.specs.Store.{KeyedStore, SealsWell}
 use Rattle.step_rules.specs.Turn.{settled_entry, settled, TurnLeaves, Turn, read_turn, short_read_turn, unsettled_turn, step_turn, undrawn_turn, uncommitted_turn, short_turn, short_settled_turn}
-use Rattle.step_rules.proofs.Steps.{Step-sound, Step-adds}
+use Rattle.step_rules.proofs.Steps.{Step-sound, Step-adds, drafts_write}
 
 -- ---- soundness speaks of events alone
 
@@ -102,3 +103,20 @@ Turn-leaves store journal doubt caller call used after doubt_after reply (undraw
 Turn-leaves store journal doubt caller call used after doubt_after reply (uncommitted_turn _ left _ _ _ _ _ l) = left_as journal (settled journal doubt) left after doubt_after (map settled_entry doubt) reply _ refl l
 Turn-leaves store journal doubt caller call used after doubt_after reply (short_turn _ _ _ l) = left_as journal journal doubt after doubt_after [] reply _ (sym (append-nil journal)) l
 Turn-leaves store journal doubt caller call used after doubt_after reply (short_settled_turn _ _ l) = left_as journal (settled journal doubt) [] after doubt_after (map settled_entry doubt) reply _ refl l
+
+-- ---- reads
+
+-- a call that only asks is none that writes
+module _ (store : KeyedStore) (journal doubt : List Entry) (caller : Caller) (call : Call) (used : Used) (after doubt_after : List Entry) (reply : Reply) (reads : is_read call ≡ true) where
+  not_both : is_read call ≡ false → ⊥
+  not_both writes = true≢false (sym reads ∙ writes)
+
+  pub reads_stay : Turn store journal doubt caller call used after doubt_after reply → (used ≡ used_nothing) × (after ≡ journal) × (doubt_after ≡ doubt)
+  reads_stay (read_turn _ e _ l) = (e, l.journal_is, l.doubt_is)
+  reads_stay (short_read_turn _ e l) = (e, l.journal_is, l.doubt_is)
+  reads_stay (unsettled_turn _ writes _ _ _) = absurd (not_both writes)
+  reads_stay (step_turn _ _ writes _ _) = absurd (not_both writes)
+  reads_stay (undrawn_turn _ draft ready _ _) = absurd (not_both (drafts_write store (settled journal doubt) call draft ready.drafts))
+  reads_stay (uncommitted_turn _ _ _ writes _ _ _ _) = absurd (not_both writes)
+  reads_stay (short_turn _ writes _ _) = absurd (not_both writes)
+  reads_stay (short_settled_turn writes _ _) = absurd (not_both writes)

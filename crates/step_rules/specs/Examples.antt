@@ -12,9 +12,9 @@ use Rattle.record_rules.specs.Examples.{kv_record, placed_record, ls_entry}
 use Rattle.view_rules.specs.Views.{OpensByTag}
 use Rattle.view_rules.specs.Answers.{Scope, of_all, of_hostname, of_session, of_cwd}
 use Rattle.step_rules.specs.Calls.{Call, start_call, end_call, delete_call, search_call, kv_set_call, kv_get_call, kv_list_call, alias_set_call, alias_delete_call, alias_list_call, status_call, long_text, call_bytes, CallFits}
-use Rattle.step_rules.specs.Answers.{too_long, unknown_id, unknown_name, full, random_fault, id_taken, disk_fault, no_memory, began, stored, hits, value_is, places, refused}
+use Rattle.step_rules.specs.Answers.{too_long, unknown_id, unknown_name, full, random_fault, id_taken, disk_fault, no_memory, began, stored, hits, value_is, keys, aliases, places, refused, Reply}
 use Rattle.step_rules.specs.Store.{Head, Seal, KeyedStore, payload_text_bytes, SealsWell}
-use Rattle.step_rules.specs.Step.{start_draft, record_draft, Drafts, draft_place, next_head, draft_answer, Step}
+use Rattle.step_rules.specs.Step.{start_draft, record_draft, Drafts, draft_place, next_head, draft_answer, Shows, Step}
 use Rattle.step_rules.specs.Turn.{UsedSome, Turn}
 use Rattle.step_rules.specs.PageTurns.{took, page_refused, page_faulted, page_no_memory, PageTurn}
 use Rattle.step_rules.specs.ReadTurns.{status_read, page_read, front_read, told_status, told_page, told_front, read_faulted, read_no_memory, ReadTurn}
@@ -129,6 +129,10 @@ pub record WorkedTexts : Type 0 where
 pub record WorkedViews : Type 0 where
   -- an alias that was never set
   pub no_alias : (store : KeyedStore) → Step store [] (call_of 1) (alias_delete_call (codes "zz")) (read_clock first_time) [] (refused (unknown_name (codes "zz")))
+  -- the key of a namespace, and none above it; and no alias above the only one
+  pub a_key : (store : KeyedStore) (r : SealedRecord) → store.opens r ≡ Some (KvSet (codes "n") (codes "k") (codes "v")) → Shows store (record { caller = call_of 1; event = Local None r } ∷ []) (kv_list_call (codes "n") [] 5) (keys (codes "k" ∷ []))
+  pub no_key_above : (store : KeyedStore) (r : SealedRecord) → store.opens r ≡ Some (KvSet (codes "n") (codes "k") (codes "v")) → Shows store (record { caller = call_of 1; event = Local None r } ∷ []) (kv_list_call (codes "n") (codes "k") 5) (keys [])
+  pub no_alias_above : (store : KeyedStore) (r : SealedRecord) → store.opens r ≡ Some (AliasSet (codes "g") (codes "v")) → Shows store (record { caller = call_of 1; event = Local None r } ∷ []) (alias_list_call (codes "g") 5) (aliases [])
   -- the value of a key, and none of another key
   pub a_value : (store : KeyedStore) (r : SealedRecord) → store.opens r ≡ Some (KvSet (codes "n") (codes "k") (codes "v")) → Turn store (record { caller = call_of 1; event = Local None r } ∷ []) [] (call_of 2) (kv_get_call (codes "n") (codes "k")) used_nothing (record { caller = call_of 1; event = Local None r } ∷ []) [] (record { front = 1; answer = value_is (Some (codes "v")) })
   pub no_value : (store : KeyedStore) (r : SealedRecord) → store.opens r ≡ Some (KvSet (codes "n") (codes "k") (codes "v")) → Turn store (record { caller = call_of 1; event = Local None r } ∷ []) [] (call_of 2) (kv_get_call (codes "n") (codes "other")) used_nothing (record { caller = call_of 1; event = Local None r } ∷ []) [] (record { front = 1; answer = value_is None })
@@ -234,6 +238,11 @@ pub record WorkedDoubt : Type 0 where
   pub shown_behind : (store : KeyedStore) (drawn : List ℕ) → OfExample store → Turn store (ls_entry ∷ end_settled store drawn ∷ other_entry ∷ []) [] (call_of 4) status_call used_nothing (ls_entry ∷ end_settled store drawn ∷ other_entry ∷ []) [] (record { front = 3; answer = places (record { host = 1; tag = history_tag; count = 1 } ∷ []) })
   -- settling may fail itself, and so may the draw
   pub stays_in_doubt : (store : KeyedStore) (drawn : List ℕ) → Turn store (ls_entry ∷ []) (end_entry store drawn ∷ []) (call_of 3) ls_call (read_clock second_time) (ls_entry ∷ []) (end_entry store drawn ∷ []) (record { front = 1; answer = refused disk_fault })
+  -- an End may be ready only behind a Start that was in doubt, which is settled then, and may fail there
+  pub undrawn_behind : Turn zeros_store [] (ls_entry ∷ []) (call_of 2) (end_call first_id (pos 1000) (pos 0)) (read_and_failed second_time) (record { caller = record { number = 0; call = 1; settled_for = 1 }; event = Started ls } ∷ []) [] (record { front = 1; answer = refused random_fault })
+  pub short_behind : Turn zeros_store [] (ls_entry ∷ []) (call_of 2) (end_call first_id (pos 1000) (pos 0)) (read_and_drew second_time (replicate 106 0)) (record { caller = record { number = 0; call = 1; settled_for = 1 }; event = Started ls } ∷ []) [] (record { front = 1; answer = refused no_memory })
+  -- no Start is answered before the clock was read
+  pub short_unread : (store : KeyedStore) (after doubt_after : List Entry) (reply : Reply) → Turn store [] [] (call_of 1) ls_call used_nothing after doubt_after reply → ⊥
   pub not_drawn : (store : KeyedStore) → Turn store [] [] (call_of 1) ls_call (read_and_failed first_time) [] [] (record { front = 0; answer = refused random_fault })
   -- a lost end may come again, in the next call
   pub again : (store : KeyedStore) (drawn : List ℕ) → OfExample store → length drawn ≡ 106 → Turn store (ls_entry ∷ []) [] (call_of 3) (end_call first_id (pos 1000) (pos 0)) (read_and_drew second_time drawn) (ls_entry ∷ record { caller = call_of 3; event = Local (Some first_id) (end_record store drawn) } ∷ []) [] (record { front = 2; answer = stored 0 })

@@ -69,7 +69,11 @@ TurnTellsFront = (store : KeyedStore) (journal doubt : List Entry) (caller : Cal
 abbrev pub TurnOnlyAdds : Type 0
 TurnOnlyAdds = (store : KeyedStore) (journal doubt : List Entry) (caller : Caller) (call : Call) (used : Used) (after doubt_after : List Entry) (reply : Reply) → Turn store journal doubt caller call used after doubt_after reply → (added : List Entry) × (after ≡ journal ++ added)
 
--- the same of a turn with a page
+-- A turn of a call that only asks uses nothing, and leaves the journal and what is in doubt.
+abbrev pub ReadCallStays : Type 0
+ReadCallStays = (store : KeyedStore) (journal doubt : List Entry) (caller : Caller) (call : Call) (used : Used) (after doubt_after : List Entry) (reply : Reply) → is_read call ≡ true → Turn store journal doubt caller call used after doubt_after reply → (used ≡ used_nothing) × (after ≡ journal) × (doubt_after ≡ doubt)
+
+-- the laws of turns hold of a turn with a page
 abbrev pub PageTurnKeepsSound : Type 0
 PageTurnKeepsSound = (journal doubt : List Entry) (caller : Caller) (owner : ℕ) (records : List SealedRecord) (after doubt_after : List Entry) (answer : PageAnswer) (host : ℕ) → Sound journal host → Sound (settled journal doubt) host → PageTurn journal doubt caller owner records after doubt_after answer → Sound after host × Sound (settled after doubt_after) host
 

@@ -9,7 +9,7 @@
 //! Each function has an empty body, and its contract is the law that its name says.
 #![tactic(auto)]
 
-ghost use Rattle.step_rules.specs.Laws.{StepKeepsSound, StepNumbersChains, StepAddsOne, RefusalLeaves, ReadLeaves, StepHasOutcome, WriteHasOneOutcome, StepHasOneOutcome, TurnKeepsSound, TurnTellsFront, TurnOnlyAdds, PageTurnKeepsSound, PageTurnOnlyAdds, ReadTurnLeaves};
+ghost use Rattle.step_rules.specs.Laws.{StepKeepsSound, StepNumbersChains, StepAddsOne, RefusalLeaves, ReadLeaves, StepHasOutcome, WriteHasOneOutcome, StepHasOneOutcome, TurnKeepsSound, TurnTellsFront, TurnOnlyAdds, ReadCallStays, PageTurnKeepsSound, PageTurnOnlyAdds, ReadTurnLeaves};
 ghost use Rattle.step_rules.specs.Examples.{WorkedStore, WorkedCommand, WorkedTexts, WorkedViews, WorkedDrafts, WorkedRun, WorkedAsked, WorkedDoubt, WorkedPageTurns, WorkedReadTurns};
 
 /// A step from a sound journal leaves a sound journal.
@@ -68,6 +68,11 @@ pub fn turn_tells_front()
 /// A turn keeps the journal as the front of what it leaves.
 pub fn turn_only_adds()
     ensures { TurnOnlyAdds }
+{}
+
+/// A turn of a call that only asks uses nothing, and leaves the journal and what is in doubt.
+pub fn read_call_stays()
+    ensures { ReadCallStays }
 {}
 
 /// A turn with a page leaves a sound journal, which stays sound when what is in doubt is settled.

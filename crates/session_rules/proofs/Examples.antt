@@ -1,14 +1,14 @@
 -- The examples, computed.
-use Rattle.std.proofs.Common.{◌≡◌, ◌⊎◌, ℕ, ◌+◌, ◌≤◌, List, [], ◌∷◌, length, true, false, inl, inr, refl, sym, ap, subst, arith}
+use Rattle.std.proofs.Common.{◌≡◌, ◌⊎◌, ℕ, ◌+◌, ◌≤◌, List, [], ◌∷◌, ◌++◌, length, take, filter, true, false, inl, inr, refl, sym, ◌∙◌, ap, subst, arith}
 use Rattle.std.specs.Prelude.{codes, All}
 use Rattle.std.proofs.lemmas.Bool.{true≢false}
-use Rattle.std.proofs.lemmas.List.{append_cancel_left}
+use Rattle.std.proofs.lemmas.List.{append-nil, append_cancel_left}
 use Rattle.std.proofs.lemmas.List.Elements.{All-from_recursion}
 use Rattle.definitions.specs.Ids.{id_text, made_id}
 use Rattle.definitions.specs.Step.{Used, used_nothing, read_clock, read_and_drew, read_and_failed}
 use Rattle.definitions.proofs.Runs.{then_used-nothing}
 use Rattle.definitions.specs.Examples.{first_time, ten_bytes}
-use Rattle.record_rules.specs.Records.{Entry}
+use Rattle.record_rules.specs.Records.{Caller, Entry}
 use Rattle.record_rules.specs.Growth.{PageGap, taken_entry}
 use Rattle.record_rules.specs.Examples.{kv_record}
 use Rattle.step_rules.specs.Answers.{stored, refused, disk_fault}
@@ -16,18 +16,20 @@ use Rattle.record_rules.proofs.Members.{Has}
 use Rattle.view_rules.proofs.Chains.{Has-from_Contains}
 use Rattle.step_rules.specs.Calls.{status_call}
 use Rattle.step_rules.specs.Store.{KeyedStore}
-use Rattle.step_rules.specs.Turn.{used_clock, used_bytes, step_turn}
-use Rattle.step_rules.specs.Step.{Ready, start_draft, start_drafts, append_step}
-use Rattle.step_rules.specs.PageTurns.{page_faulted, taken_page}
+use Rattle.step_rules.specs.Turn.{used_clock, used_bytes, read_turn, step_turn}
+use Rattle.step_rules.specs.Step.{Ready, start_draft, start_drafts, append_step, shows_places}
+use Rattle.step_rules.specs.PageTurns.{page_faulted, taken_page, short_page}
 use Rattle.step_rules.specs.ReadTurns.{status_read, page_read, read_faulted, tells_status, tells_page, faults_on_page, wants_memory}
 use Rattle.step_rules.specs.Examples.{second_time, ls_call, two_records}
+use Rattle.step_rules.proofs.Steps.{Step-adds}
 use Rattle.request_rules.proofs.Examples.{calls, faults}
 use Rattle.session_rules.specs.Sessions.{Asked, a_call, no_call, unrouted, caller_of, Told, told_disk_fault, told_random_fault, told_no_memory, told_no_memory_to_read, Session, SessionAnswer, to_call, to_page, to_read, One, is_of, told_step, told_bad, told_no_memory_for_bad, told_page, told_page_refused, told_page_disk_fault, told_page_no_memory, told_read, told_unrouted, told_no_memory_for_unrouted}
 use Rattle.session_rules.specs.Turns.{TurnAnswers, answers_call, answers_bad, answers_page, answers_read, answers_unrouted}
 use Rattle.session_rules.specs.Passes.{TurnItem, failures, tells_disk_fault, TurnsFor}
 use Rattle.session_rules.specs.Books.{Finds}
 use Rattle.session_rules.specs.Http.{route_codes, IsHttp}
-use Rattle.session_rules.specs.Examples.{high_bytes, high_id, started_by, both, a_turn, another_turn, by_first, by_second, once_settled, pass_at, book_at, posted, http_asked, worker_batch, worker_journal, WorkedReplies, WorkedSessions, WorkedPages, WorkedReading, WorkedPass, WorkedBook, WorkedHttp}
+use Rattle.session_rules.proofs.Growing.{batch_of_caller}
+use Rattle.session_rules.specs.Examples.{high_bytes, high_id, started_by, both, a_turn, another_turn, by_first, by_second, once_settled, pass_at, book_at, posted, http_asked, by_second_call, worker_batch, worker_journal, WorkedReplies, WorkedSessions, WorkedPages, WorkedReading, WorkedPass, WorkedBook, WorkedHttp}
 
 pub replies : WorkedReplies
 unfolding id_text
@@ -106,6 +108,59 @@ sessions = record {
   no_failed_page_turn = λ turns. same_turn (to_page page_faulted) turns.0 refl turns.1 turns.2;
 }
 
+none_of_caller : (caller : Caller) (commit : List Entry) → commit ≡ [] → All (λ (entry : Entry). entry.caller ≡ caller) commit
+none_of_caller caller commit none = subst (All (λ (entry : Entry). entry.caller ≡ caller)) (sym none) (λ k d below. absurd (omega arith))
+
+no_length : (entries : List Entry) → length entries ≡ 0 → entries ≡ []
+no_length [] is = refl
+no_length (entry ∷ entries) is = absurd (omega (arith, is))
+
+-- what is committed for a request is of its call
+told_of_call : (store : KeyedStore) (journal : List Entry) (caller : Caller) (asked : Asked) (front : ℕ) (used : Used) (answer : SessionAnswer) (commit : List Entry) → Told store journal caller asked front used answer commit → All (λ (entry : Entry). entry.caller ≡ caller) commit
+told_of_call store journal caller asked front used answer commit (told_step call before given _ parts step _) =
+    let adds = Step-adds store before caller call used (take front journal) given step in
+    subst (All (λ (entry : Entry). entry.caller ≡ caller)) (append_cancel_left before adds.added commit (sym adds.after_is ∙ parts)) adds.of_caller
+told_of_call store journal caller asked front used answer commit (told_page owner records before _ _ grows _ _) = batch_of_caller before caller owner records commit grows
+told_of_call store journal caller asked front used answer commit (told_disk_fault _ _ _ _ _ none) = none_of_caller caller commit none
+told_of_call store journal caller asked front used answer commit (told_random_fault _ _ _ _ _ _ _ none) = none_of_caller caller commit none
+told_of_call store journal caller asked front used answer commit (told_no_memory _ _ _ _ _ none) = none_of_caller caller commit none
+told_of_call store journal caller asked front used answer commit (told_no_memory_to_read _ _ _ _ _ none) = none_of_caller caller commit none
+told_of_call store journal caller asked front used answer commit (told_bad _ _ _ _ none) = none_of_caller caller commit none
+told_of_call store journal caller asked front used answer commit (told_no_memory_for_bad _ _ _ _ none) = none_of_caller caller commit none
+told_of_call store journal caller asked front used answer commit (told_page_refused _ _ _ _ _ _ _ none) = none_of_caller caller commit none
+told_of_call store journal caller asked front used answer commit (told_page_disk_fault _ _ _ _ _ none) = none_of_caller caller commit none
+told_of_call store journal caller asked front used answer commit (told_page_no_memory _ _ _ _ _ none) = none_of_caller caller commit none
+told_of_call store journal caller asked front used answer commit (told_read _ _ _ _ _ _ none) = none_of_caller caller commit none
+told_of_call store journal caller asked front used answer commit (told_unrouted _ _ _ _ none) = none_of_caller caller commit none
+told_of_call store journal caller asked front used answer commit (told_no_memory_for_unrouted _ _ _ _ none) = none_of_caller caller commit none
+
+-- so the first call committed no entry of the second
+first_committed : (store : KeyedStore) (journal : List Entry) (asked : Asked) (front : ℕ) (used : Used) (answer : SessionAnswer) (commit : List Entry) → Told store journal (caller_of 1 1) asked front used answer commit → by_second_call ∷ [] ≡ commit → ⊥
+first_committed store journal asked front used answer commit told is =
+    let own : All (λ (entry : Entry). entry.caller ≡ caller_of 1 1) (by_second_call ∷ []) = subst (All (λ (entry : Entry). entry.caller ≡ caller_of 1 1)) (sym is) (told_of_call store journal (caller_of 1 1) asked front used answer commit told) in
+    let call : ◌≡◌ {A = ℕ} 2 1 = ap (λ (c : Caller). c.call) (own 0 by_second_call (omega arith)) in
+    omega (arith, call)
+
+-- what a session committed whose journal is that entry
+one_committed : (since commits : List Entry) → by_second_call ∷ [] ≡ since → filter (is_of 1) since ≡ commits → by_second_call ∷ [] ≡ commits
+one_committed since commits is own = subst (λ entries. filter (is_of 1) entries ≡ commits) (sym is) own
+
+second_entry_not_by_first : (store : KeyedStore) (asked : Asked) (used : Used) (answer : SessionAnswer) → Session store [] 1 (asked ∷ []) used (record { front = 1; answer = answer } ∷ []) (by_second_call ∷ []) → ⊥
+second_entry_not_by_first store asked used answer session =
+    let one = session.serves.0 in
+    let all = one_committed session.since session.commits session.begins session.own_are in
+    first_committed store (by_second_call ∷ []) asked 1 one.used_here answer one.commit one.told (all ∙ one.commits_are ∙ ap (λ rest. one.commit ++ rest) session.serves.1.1 ∙ append-nil one.commit)
+
+second_entry_not_before : (store : KeyedStore) (asked other : Asked) (used : Used) (answer other_answer : SessionAnswer) → Session store [] 1 (asked ∷ other ∷ []) used (record { front = 1; answer = answer } ∷ record { front = 1; answer = other_answer } ∷ []) (by_second_call ∷ []) → ⊥
+second_entry_not_before store asked other used answer other_answer session =
+    let one = session.serves.0 in
+    let two = session.serves.1.0 in
+    let all = one_committed session.since session.commits session.begins session.own_are in
+    let behind : 1 + length two.commit ≤ 1 = two.behind in
+    let none : two.commit ≡ [] = no_length two.commit (omega (arith, behind)) in
+    let later : one.commits_later ≡ [] = two.commits_are ∙ ap (λ rest. two.commit ++ rest) session.serves.1.1.1 ∙ append-nil two.commit ∙ none in
+    first_committed store (by_second_call ∷ []) asked 1 one.used_here answer one.commit one.told (all ∙ one.commits_are ∙ ap (λ rest. one.commit ++ rest) later ∙ append-nil one.commit)
+
 pub pages : WorkedPages
 pages = record {
   session = λ store. record {
@@ -153,6 +208,8 @@ pages = record {
       ),
     );
   };
+  not_by_first = second_entry_not_by_first;
+  not_before = second_entry_not_before;
 }
 
 pub reading : WorkedReading
@@ -212,19 +269,19 @@ no_part byte bytes is = let same : ◌≡◌ {A = ℕ} 0 (length (byte ∷ bytes
 own_not_found : Finds (pass_at []) (book_at (by_first ∷ []) 4) → ⊥
 own_not_found finds = true≢false (subst (All (λ entry. is_of 1 entry ≡ false)) (sym finds.entries) finds.of_others 0 by_first (omega arith))
 
-doubt_kept_by_bad : (store : KeyedStore) (answer : SessionAnswer) → TurnAnswers store [] (by_first ∷ []) (caller_of 1 2) (no_call 14) used_nothing [] [] answer → ⊥
-doubt_kept_by_bad store answer (answers_call _ _ is _ _) = absurd cc
-doubt_kept_by_bad store answer (answers_bad _ _ _ l _) = no_entry by_first [] l.doubt_is
-doubt_kept_by_bad store answer (answers_page _ _ _ is _ _ _) = absurd cc
-doubt_kept_by_bad store answer (answers_read _ _ is _ _ _) = absurd cc
-doubt_kept_by_bad store answer (answers_unrouted _ is _ _ _) = absurd cc
+doubt_kept_by_bad : (store : KeyedStore) (after : List Entry) (answer : SessionAnswer) → TurnAnswers store [] (by_first ∷ []) (caller_of 1 2) (no_call 14) used_nothing after [] answer → ⊥
+doubt_kept_by_bad store after answer (answers_call _ _ is _ _) = absurd cc
+doubt_kept_by_bad store after answer (answers_bad _ _ _ l _) = no_entry by_first [] l.doubt_is
+doubt_kept_by_bad store after answer (answers_page _ _ _ is _ _ _) = absurd cc
+doubt_kept_by_bad store after answer (answers_read _ _ is _ _ _) = absurd cc
+doubt_kept_by_bad store after answer (answers_unrouted _ is _ _ _) = absurd cc
 
-doubt_kept_nowhere : (store : KeyedStore) (answer : SessionAnswer) → TurnAnswers store [] (by_first ∷ []) (caller_of 1 2) (unrouted 404) used_nothing [] [] answer → ⊥
-doubt_kept_nowhere store answer (answers_call _ _ is _ _) = absurd cc
-doubt_kept_nowhere store answer (answers_bad _ is _ _ _) = absurd cc
-doubt_kept_nowhere store answer (answers_page _ _ _ is _ _ _) = absurd cc
-doubt_kept_nowhere store answer (answers_read _ _ is _ _ _) = absurd cc
-doubt_kept_nowhere store answer (answers_unrouted _ _ _ l _) = no_entry by_first [] l.doubt_is
+doubt_kept_nowhere : (store : KeyedStore) (after : List Entry) (answer : SessionAnswer) → TurnAnswers store [] (by_first ∷ []) (caller_of 1 2) (unrouted 404) used_nothing after [] answer → ⊥
+doubt_kept_nowhere store after answer (answers_call _ _ is _ _) = absurd cc
+doubt_kept_nowhere store after answer (answers_bad _ is _ _ _) = absurd cc
+doubt_kept_nowhere store after answer (answers_page _ _ _ is _ _ _) = absurd cc
+doubt_kept_nowhere store after answer (answers_read _ _ is _ _ _) = absurd cc
+doubt_kept_nowhere store after answer (answers_unrouted _ _ _ l _) = no_entry by_first [] l.doubt_is
 
 pub book : WorkedBook
 book = record {
@@ -253,6 +310,11 @@ book = record {
     moves = record { entries = (by_first ∷ [], refl); faults = omega arith; fixed = refl };
     after_is = refl;
   };
+  leaves = record {
+    finds = record { since = []; entries = refl; of_others = All-from_recursion (λ entry. is_of 1 entry ≡ false) [] tt; faults = omega arith; fixed = refl };
+    moves = record { entries = ([], refl); faults = omega arith; fixed = refl };
+    after_is = refl;
+  };
   no_entry_lost = λ moves. no_entry by_second moves.entries.0 moves.entries.1;
   no_fault_lost = λ moves. let counted : 4 ≤ 3 = moves.faults in omega (arith, counted);
   no_other_part = λ moves. no_part 0 (1 ∷ []) moves.fixed;
@@ -260,6 +322,8 @@ book = record {
       (step_turn _ _ refl (append_step first_time high_bytes (start_draft (codes "ls") (codes "/") (codes "s1") (codes "h:u")) refl refl (record { short = refl; drafts = start_drafts _ _ _ _ refl refl; room = refl }) refl refl refl) (record { journal_is = refl; doubt_is = refl; reply_is = refl })) refl;
   page_in_turn = λ store. answers_page 5 two_records _ refl refl (taken_page worker_batch refl (record { journal_is = refl; doubt_is = refl }) refl) refl;
   status_in_turn = λ store. answers_read (status_read 5) _ refl refl (tells_status 5 refl (record { journal_is = refl; doubt_is = refl }) refl) refl;
+  call_in_turn = λ store. answers_call status_call _ refl (read_turn _ refl (shows_places refl refl) (record { journal_is = refl; doubt_is = refl; reply_is = refl })) refl;
+  page_unheld_in_turn = λ store. answers_page 5 two_records _ refl refl (short_page (record { journal_is = refl; doubt_is = refl }) refl) refl;
   still = record { entries = ([], refl); faults = omega arith; fixed = refl };
   bad_unheld_in_turn = λ store. answers_bad 14 refl refl (record { journal_is = refl; doubt_is = refl }) (inr refl);
   bad_keeps_doubt = doubt_kept_by_bad;
@@ -329,9 +393,12 @@ http = record {
       );
     };
   };
+  begins = λ store. record { of_http = All-from_recursion IsHttp [] tt; as_many = refl; session = record { since = []; begins = refl; commits = []; serves = (refl, refl); own_are = refl } };
   codes_are = refl;
   refusals_are = refl;
   others_are = refl;
+  empty_comes = tt;
+  empty_is_got = tt;
   no_front = λ comes. comes;
   no_call_comes = λ comes. comes;
   no_bytes_come = λ comes. comes;
@@ -346,6 +413,10 @@ http = record {
   front_may_not = λ may. may;
   unrouted_may_not = λ may. may;
   beside = refl;
+  front_alone = refl;
+  answer_alone = refl;
+  no_front_alone = λ store session. let same : ◌≡◌ {A = ℕ} 1 0 = session.as_many in omega (arith, same);
+  no_answer_alone = λ store session. let same : ◌≡◌ {A = ℕ} 0 1 = session.as_many in omega (arith, same);
   failed_read_turn = (record { found = 1; left = 1; failed = true } ∷ [], refl, (refl, (λ told. refl), tt));
   no_failed_read_turn = λ turns. same_turn (to_read read_faulted) turns.0 refl turns.1 turns.2;
 }

@@ -108,7 +108,7 @@ module _ (store : KeyedStore) (journal doubt : List Entry) (caller : Caller) (ca
 -- ---- the same of a page
 
 -- what a page adds is of its call
-batch_of_caller : (journal : List Entry) (caller : Caller) (owner : ℕ) (records : List SealedRecord) (batch : List Entry) → grow journal caller owner records ≡ Ok batch → All (λ (entry : Entry). entry.caller ≡ caller) batch
+pub batch_of_caller : (journal : List Entry) (caller : Caller) (owner : ℕ) (records : List SealedRecord) (batch : List Entry) → grow journal caller owner records ≡ Ok batch → All (λ (entry : Entry). entry.caller ≡ caller) batch
 batch_of_caller journal caller owner records batch is =
     let fresh = fresh_of (records_of (own_events journal owner)) records in
     subst (All (λ (entry : Entry). entry.caller ≡ caller)) (grown_batch (map (taken_entry caller owner) fresh) (first_refusal owner (own_events journal owner) [] records) batch is).1

@@ -1,7 +1,7 @@
 -- Worked examples: replies in bytes, with the numbers written out, and two sessions in one journal.
 use Rattle.std.specs.Prelude.{◌≡◌, ℕ, ◌-◌, ◌^◌, pos, negsuc, List, [], ◌∷◌, ◌++◌, codes, map, Some, None, replicate, true, false, ◌⊎◌}
 use Rattle.definitions.specs.Ids.{made_id}
-use Rattle.definitions.specs.Step.{used_nothing, read_clock, read_and_drew, read_and_failed}
+use Rattle.definitions.specs.Step.{Used, used_nothing, read_clock, read_and_drew, read_and_failed}
 use Rattle.definitions.specs.Examples.{first_time, ten_bytes, ls}
 use Rattle.record_rules.specs.Records.{SealedRecord, Caller, Entry, Started}
 use Rattle.record_rules.specs.Growth.{PageTooLong, PageForked, PageGap, PageFull, taken_entry}
@@ -81,9 +81,12 @@ pub record WorkedSessions : Type 0 where
 
 -- ---- a session that takes in pages
 
--- two records of owner 5, taken in the second call
+-- two records of owner 5, taken in the second call: the first, and both
+abbrev pub by_second_call : Entry
+by_second_call = taken_entry (caller_of 1 2) 5 (kv_record 0 1000)
+
 abbrev pub worker_batch : List Entry
-worker_batch = taken_entry (caller_of 1 2) 5 (kv_record 0 1000) ∷ taken_entry (caller_of 1 2) 5 (kv_record 1 1001) ∷ []
+worker_batch = by_second_call ∷ taken_entry (caller_of 1 2) 5 (kv_record 1 1001) ∷ []
 
 abbrev pub worker_journal : List Entry
 worker_journal = started_by 1 (made_id second_time ten_bytes) second_time ∷ worker_batch
@@ -93,6 +96,10 @@ pub record WorkedPages : Type 0 where
   pub session : (store : KeyedStore) → Session store [] 1 (a_call ls_call ∷ a_page 5 two_records ∷ a_page 5 two_records ∷ a_page 5 (kv_record 3 1003 ∷ []) ∷ a_page 5 two_records ∷ a_page 5 two_records ∷ []) (read_and_drew second_time ten_bytes)
       (record { front = 1; answer = to_call (began (made_id second_time ten_bytes)) } ∷ record { front = 3; answer = to_page (took 2) } ∷ record { front = 3; answer = to_page (took 0) } ∷ record { front = 3; answer = to_page (page_refused (PageGap 0 2)) } ∷ record { front = 3; answer = to_page page_faulted } ∷ record { front = 3; answer = to_page page_no_memory } ∷ [])
       worker_journal
+  -- Whatever is asked first and however it is answered, no entry of the second call is committed for it. And none is for the second one where it
+  -- stood at the front of the first.
+  pub not_by_first : (store : KeyedStore) (asked : Asked) (used : Used) (answer : SessionAnswer) → Session store [] 1 (asked ∷ []) used (record { front = 1; answer = answer } ∷ []) (by_second_call ∷ []) → ⊥
+  pub not_before : (store : KeyedStore) (asked other : Asked) (used : Used) (answer other_answer : SessionAnswer) → Session store [] 1 (asked ∷ other ∷ []) used (record { front = 1; answer = answer } ∷ record { front = 1; answer = other_answer } ∷ []) (by_second_call ∷ []) → ⊥
 
 -- ---- what is read of payloads
 
@@ -182,6 +189,8 @@ pub record WorkedBook : Type 0 where
   pub went_wrong : turn_between (book_at (by_second ∷ []) 4) (book_at (by_second ∷ []) 5) ≡ record { found = 1; left = 1; failed = true }
   -- pass 1 takes the book with an entry of pass 2, puts one of its own behind, and gives it back
   pub takes : PassTurn (pass_at []) (book_at (by_second ∷ []) 4) (book_at (by_second ∷ by_first ∷ []) 5) (record { number = 1; seen = by_second ∷ by_first ∷ []; known = 2; turns = a_turn ∷ record { found = 1; left = 2; failed = true } ∷ []; faults = 5; fixed = 0 ∷ 1 ∷ [] })
+  -- or it leaves a book without entries as it was
+  pub leaves : PassTurn (pass_at []) (book_at [] 4) (book_at [] 4) (record { number = 1; seen = []; known = 2; turns = a_turn ∷ record { found = 0; left = 0; failed = false } ∷ []; faults = 4; fixed = 0 ∷ 1 ∷ [] })
   -- no turn takes an entry or a fault back, or changes the fixed part
   pub no_entry_lost : BookMoves (book_at (by_second ∷ []) 4) (book_at [] 4) → ⊥
   pub no_fault_lost : BookMoves (book_at [] 4) (book_at [] 3) → ⊥
@@ -192,14 +201,17 @@ pub record WorkedBook : Type 0 where
   pub start_in_turn : (store : KeyedStore) → TurnAnswers store [] (by_first ∷ []) (caller_of 2 1) (a_call ls_call) (read_and_drew first_time high_bytes) (first_settled ∷ started_by 2 high_id first_time ∷ []) [] (to_call (began high_id))
   pub page_in_turn : (store : KeyedStore) → TurnAnswers store [] (by_first ∷ []) (caller_of 1 2) (a_page 5 two_records) used_nothing (first_settled ∷ worker_batch) [] (to_page (took 2))
   pub status_in_turn : (store : KeyedStore) → TurnAnswers store worker_batch (by_first ∷ []) (caller_of 1 3) (a_read (status_read 5)) used_nothing worker_batch (by_first ∷ []) (to_read (told_status (record { host = 2; tag = codes "kv"; count = 2 } ∷ [])))
+  -- a Status that is a call settles nothing either, and a page may be told want of memory before it settles
+  pub call_in_turn : (store : KeyedStore) → TurnAnswers store [] (by_first ∷ []) (caller_of 1 2) (a_call status_call) used_nothing [] (by_first ∷ []) (to_call (places []))
+  pub page_unheld_in_turn : (store : KeyedStore) → TurnAnswers store [] (by_first ∷ []) (caller_of 1 2) (a_page 5 two_records) used_nothing [] (by_first ∷ []) (to_page page_no_memory)
   -- what asks the store nothing is answered in a turn that leaves all, with a commit in doubt too
   pub bad_in_turn : (store : KeyedStore) → TurnAnswers store [] (by_first ∷ []) (caller_of 1 2) (no_call 14) used_nothing [] (by_first ∷ []) (to_call (refused (bad_request 14)))
   pub bad_unheld_in_turn : (store : KeyedStore) → TurnAnswers store [] (by_first ∷ []) (caller_of 1 2) (no_call 14) used_nothing [] (by_first ∷ []) (to_call (refused no_memory))
   pub nowhere_in_turn : (store : KeyedStore) → TurnAnswers store [] (by_first ∷ []) (caller_of 1 2) (unrouted 404) used_nothing [] (by_first ∷ []) (to_unrouted 404)
   pub unheld_in_turn : (store : KeyedStore) → TurnAnswers store [] (by_first ∷ []) (caller_of 1 2) (unrouted 404) used_nothing [] (by_first ∷ []) (to_unrouted 503)
-  -- and it loses no commit in doubt
-  pub bad_keeps_doubt : (store : KeyedStore) (answer : SessionAnswer) → TurnAnswers store [] (by_first ∷ []) (caller_of 1 2) (no_call 14) used_nothing [] [] answer → ⊥
-  pub nowhere_keeps_doubt : (store : KeyedStore) (answer : SessionAnswer) → TurnAnswers store [] (by_first ∷ []) (caller_of 1 2) (unrouted 404) used_nothing [] [] answer → ⊥
+  -- and whatever it leaves, it neither settles a commit in doubt nor loses it
+  pub bad_keeps_doubt : (store : KeyedStore) (after : List Entry) (answer : SessionAnswer) → TurnAnswers store [] (by_first ∷ []) (caller_of 1 2) (no_call 14) used_nothing after [] answer → ⊥
+  pub nowhere_keeps_doubt : (store : KeyedStore) (after : List Entry) (answer : SessionAnswer) → TurnAnswers store [] (by_first ∷ []) (caller_of 1 2) (unrouted 404) used_nothing after [] answer → ⊥
 
 -- ---- a session over HTTP
 
@@ -216,6 +228,8 @@ http_answers = to_page (took 2) ∷ to_read (told_status (record { host = 2; tag
 pub record WorkedHttp : Type 0 where
   -- A page is posted, a status and a page are got, there is no such path, memory was wanting for a token, the disk failed, and memory again.
   pub session : (store : KeyedStore) → HttpSession store [] 2 http_asked (3 ∷ 3 ∷ 3 ∷ 3 ∷ 3 ∷ 3 ∷ 3 ∷ []) http_answers posted
+  -- it begins with no request, at any journal
+  pub begins : (store : KeyedStore) → HttpSession store posted 2 [] [] [] posted
   pub codes_are : map response_code http_answers ≡ Some 200 ∷ Some 200 ∷ Some 200 ∷ Some 404 ∷ Some 503 ∷ Some 500 ∷ Some 503 ∷ []
   -- the codes of a page that is refused, or fails
   pub refusals_are : map response_code (to_page (page_refused (PageTooLong 100 0)) ∷ to_page (page_refused (PageForked 0 7)) ∷ to_page (page_refused (PageGap 0 2)) ∷ to_page (page_refused (PageFull (record { what = 3; held = 4096 }))) ∷ to_page page_faulted ∷ to_page page_no_memory ∷ [])
@@ -227,6 +241,9 @@ pub record WorkedHttp : Type 0 where
   pub no_bytes_come : IsHttp (no_call 0) → ⊥
   pub refused_before : (IsHttp (unrouted 400) × IsHttp (unrouted 401)) × (IsHttp (unrouted 404) × IsHttp (unrouted 405))
   pub no_other_code : (code : ℕ) → IsHttp (unrouted code) → ((code ≡ 400) ⊎ (code ≡ 401)) ⊎ ((code ≡ 404) ⊎ (code ≡ 405))
+  -- a page that comes may be empty, and so may one that is got
+  pub empty_comes : IsHttp (a_page 5 [])
+  pub empty_is_got : IsHttp (a_read (page_read 5 2 (codes "kv") 0 0))
   -- a fault may be told to what writes and to a page that is read, and to nothing else
   pub start_may_fault : MayFault (a_call ls_call)
   pub status_call_may_not : MayFault (a_call status_call) → ⊥
@@ -238,6 +255,11 @@ pub record WorkedHttp : Type 0 where
   pub unrouted_may_not : MayFault (unrouted 404) → ⊥
   -- each front beside its answer
   pub beside : at_fronts (1 ∷ 3 ∷ []) (to_unrouted 404 ∷ to_page (took 2) ∷ []) ≡ record { front = 1; answer = to_unrouted 404 } ∷ record { front = 3; answer = to_page (took 2) } ∷ []
+  -- and nothing beside what has none, which no session has
+  pub front_alone : at_fronts (1 ∷ []) [] ≡ []
+  pub answer_alone : at_fronts [] (to_unrouted 404 ∷ []) ≡ []
+  pub no_front_alone : (store : KeyedStore) → HttpSession store [] 2 [] (0 ∷ []) [] [] → ⊥
+  pub no_answer_alone : (store : KeyedStore) → HttpSession store [] 2 [] [] (to_unrouted 404 ∷ []) [] → ⊥
   -- and a page that the disk failed, with a turn that failed
   pub failed_read_turn : TurnsOf [] (record { front = 1; answer = to_read read_faulted } ∷ []) (record { found = 1; left = 1; failed = true } ∷ [])
   pub no_failed_read_turn : TurnsOf [] (record { front = 1; answer = to_read read_faulted } ∷ []) (record { found = 1; left = 1; failed = false } ∷ []) → ⊥

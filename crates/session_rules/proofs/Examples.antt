@@ -163,6 +163,7 @@ second_entry_not_before store asked other used answer other_answer session =
 
 pub pages : WorkedPages
 pages = record {
+  which_are_stored = refl;
   session = λ store. record {
     since = worker_journal;
     begins = refl;

@@ -7,3 +7,4 @@ pub mod Telling
 pub mod Passes
 pub mod Books
 pub mod Http
+pub mod Stored

@@ -13,7 +13,7 @@ use Rattle.step_rules.specs.PageTurns.{took, page_refused, page_faulted, page_no
 use Rattle.step_rules.specs.ReadTurns.{status_read, page_read, front_read, told_status, told_page, told_front, read_faulted, read_no_memory}
 use Rattle.step_rules.specs.Examples.{second_time, ls_call, two_records}
 use Rattle.session_rules.specs.Bytes.{reply_bytes}
-use Rattle.session_rules.specs.Sessions.{Asked, a_call, no_call, a_page, a_read, unrouted, SessionAnswer, to_call, to_page, to_read, to_unrouted, caller_of, Session, told_random_faults}
+use Rattle.session_rules.specs.Sessions.{Asked, a_call, no_call, a_page, a_read, unrouted, SessionAnswer, to_call, to_page, to_read, to_unrouted, caller_of, Session, told_random_faults, is_stored}
 use Rattle.session_rules.specs.Reading.{Reads, ReadsEach}
 use Rattle.session_rules.specs.Turns.{TurnAnswers}
 use Rattle.session_rules.specs.Passes.{TurnItem, Pass, mine, seen_more, KnowsItself, failures, PassMoves, split_off, joined, disk_faults, TurnsOf}
@@ -92,6 +92,9 @@ abbrev pub worker_journal : List Entry
 worker_journal = started_by 1 (made_id second_time ten_bytes) second_time ∷ worker_batch
 
 pub record WorkedPages : Type 0 where
+  -- what tells of something that was stored, and what doesn't
+  pub which_are_stored : map is_stored (to_call (began 1) ∷ to_call (stored 0) ∷ to_page (took 0) ∷ to_call (refused disk_fault) ∷ to_call (places []) ∷ to_page page_faulted ∷ to_page (page_refused (PageGap 0 2)) ∷ to_read (told_front 1) ∷ to_unrouted 404 ∷ [])
+      ≡ true ∷ true ∷ true ∷ false ∷ false ∷ false ∷ false ∷ false ∷ false ∷ []
   -- A Start and then five pages: one that is taken, the same again, one with a gap before it, and two that the disk and memory fail.
   pub session : (store : KeyedStore) → Session store [] 1 (a_call ls_call ∷ a_page 5 two_records ∷ a_page 5 two_records ∷ a_page 5 (kv_record 3 1003 ∷ []) ∷ a_page 5 two_records ∷ a_page 5 two_records ∷ []) (read_and_drew second_time ten_bytes)
       (record { front = 1; answer = to_call (began (made_id second_time ten_bytes)) } ∷ record { front = 3; answer = to_page (took 2) } ∷ record { front = 3; answer = to_page (took 0) } ∷ record { front = 3; answer = to_page (page_refused (PageGap 0 2)) } ∷ record { front = 3; answer = to_page page_faulted } ∷ record { front = 3; answer = to_page page_no_memory } ∷ [])

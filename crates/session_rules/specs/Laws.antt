@@ -9,7 +9,7 @@ use Rattle.step_rules.specs.Answers.{refused, no_memory, bad_request, Reply}
 use Rattle.step_rules.specs.Store.{KeyedStore}
 use Rattle.step_rules.specs.Turn.{settled_entry}
 use Rattle.request_rules.specs.Requests.{call_kinds}
-use Rattle.session_rules.specs.Sessions.{Asked, SessionAnswer, to_call, SessionReply, call_reply, caller_of, Told, is_of, Session, told_random_faults}
+use Rattle.session_rules.specs.Sessions.{Asked, SessionAnswer, to_call, SessionReply, call_reply, caller_of, Told, is_of, Session, told_random_faults, is_stored}
 use Rattle.session_rules.specs.Reading.{Reads, ReadsEach}
 use Rattle.session_rules.specs.Turns.{TurnAnswers}
 use Rattle.session_rules.specs.Passes.{TurnItem, Pass, mine, seen_more, KnowsItself, SeenBefore, PassMoves, split_off, joined, tells_disk_fault, disk_faults, TurnsOf}
@@ -29,6 +29,10 @@ RepliesAtPoints = (store : KeyedStore) (seen : List Entry) (number : ℕ) (asked
 abbrev pub PointsFollow : Type 0
 PointsFollow = (store : KeyedStore) (seen : List Entry) (number : ℕ) (asked : List Asked) (used : Used) (replies : List SessionReply) (journal : List Entry) (i k : ℕ) (r s : SessionReply) → Session store seen number asked used replies journal → i ≤ k → slice_get replies i ≡ Some r → slice_get replies k ≡ Some s
     → (length seen ≤ r.front) × (r.front ≤ s.front) × (s.front ≤ length journal)
+
+-- What tells of nothing that was stored commits nothing: a refusal, a read, and what failed.
+abbrev pub OnlyStoredCommits : Type 0
+OnlyStoredCommits = (store : KeyedStore) (journal : List Entry) (caller : Caller) (asked : Asked) (front : ℕ) (used : Used) (answer : SessionAnswer) (commit : List Entry) → Told store journal caller asked front used answer commit → is_stored answer ≡ false → commit ≡ []
 
 -- a session's commits have its number
 abbrev pub CommitsAreOwn : Type 0

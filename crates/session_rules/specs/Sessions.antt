@@ -4,7 +4,7 @@ use Rattle.definitions.specs.Step.{Used, used_nothing, then_used, read_and_faile
 use Rattle.record_rules.specs.Records.{SealedRecord, Caller, Entry}
 use Rattle.record_rules.specs.Growth.{PageRefusal, grow}
 use Rattle.step_rules.specs.Calls.{Call, is_read}
-use Rattle.step_rules.specs.Answers.{Answer, refused, random_fault, disk_fault, no_memory, bad_request, Reply}
+use Rattle.step_rules.specs.Answers.{Answer, began, stored, refused, random_fault, disk_fault, no_memory, bad_request, Reply}
 use Rattle.step_rules.specs.Store.{KeyedStore}
 use Rattle.step_rules.specs.Step.{Draft, Ready, Step}
 use Rattle.step_rules.specs.Turn.{UsedSome}
@@ -115,3 +115,10 @@ tells_random_fault _ = false
 
 abbrev pub told_random_faults : List SessionReply → ℕ
 told_random_faults replies = length (filter (λ reply. tells_random_fault reply.answer) replies)
+
+-- whether the answer tells of something that was stored: a command that began, a record, or records of a page
+abbrev pub is_stored : SessionAnswer → Bool
+is_stored (to_call (began id)) = true
+is_stored (to_call (stored idx)) = true
+is_stored (to_page (took added)) = true
+is_stored _ = false

@@ -9,7 +9,7 @@
 //! Each function has an empty body, and its contract is the law that its name says.
 #![tactic(auto)]
 
-ghost use Rattle.session_rules.specs.Laws.{EachIsAnswered, RepliesAtPoints, PointsFollow, CommitsAreOwn, SessionsDontOverlap, OthersLeaveIt, TurnMakesLonger, SessionBegins, PayloadIsRead, PayloadsAreRead, FramesGetCallReplies, BadRequestIsTold, TurnsFollow, RandomFaultsAreDraws, PassGrowsByItsOwn, PassStays, MovesFollow, PassKnowsItself, DiskFaultsAreCounted, SplitStartsAnew, JoinKeepsBoth, FirstPassFinds, TurnMovesPass, PassFindsAgain, TurnAddsOwn, OthersFindIt, SplitFinds, JoinFinds, GoesBegins, PassGoesOn, JoinGoesOn, DiskFaultsHaveCauses, HttpUsesNothing, RequestsGetResponses};
+ghost use Rattle.session_rules.specs.Laws.{EachIsAnswered, RepliesAtPoints, PointsFollow, OnlyStoredCommits, CommitsAreOwn, SessionsDontOverlap, OthersLeaveIt, TurnMakesLonger, SessionBegins, PayloadIsRead, PayloadsAreRead, FramesGetCallReplies, BadRequestIsTold, TurnsFollow, RandomFaultsAreDraws, PassGrowsByItsOwn, PassStays, MovesFollow, PassKnowsItself, DiskFaultsAreCounted, SplitStartsAnew, JoinKeepsBoth, FirstPassFinds, TurnMovesPass, PassFindsAgain, TurnAddsOwn, OthersFindIt, SplitFinds, JoinFinds, GoesBegins, PassGoesOn, JoinGoesOn, DiskFaultsHaveCauses, HttpUsesNothing, RequestsGetResponses};
 ghost use Rattle.session_rules.specs.Examples.{WorkedReplies, WorkedSessions, WorkedPages, WorkedReading, WorkedPass, WorkedBook, WorkedHttp};
 
 /// Each request of a session gets one reply.
@@ -26,6 +26,11 @@ pub fn replies_at_points()
 /// The points follow one another, between what was seen at the opening and the journal's end.
 pub fn points_follow()
     ensures { PointsFollow }
+{}
+
+/// A reply that tells of nothing that was stored commits nothing: a refusal, a read, and what failed.
+pub fn only_what_is_stored_commits()
+    ensures { OnlyStoredCommits }
 {}
 
 /// What a session commits has its number.

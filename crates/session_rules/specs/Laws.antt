@@ -150,10 +150,11 @@ abbrev pub OthersFindIt : Type 0
 OthersFindIt = (store : KeyedStore) (pass other after : Pass) (found left : Book) (doubt : List Entry) (call : ℕ) (asked : Asked) (used : Used) (doubt_after : List Entry) (answer : SessionAnswer) → PassTurn pass found left after → TurnAnswers store found.entries doubt (caller_of pass.number call) asked used left.entries doubt_after answer
     → Finds other found → other.number ≢ 0 → other.number ≢ pass.number → Finds other left
 
--- A pass that is split off under a number that no entry has finds the book, and so does one to which another is joined.
+-- A pass that is split off under a number that no entry has finds the book.
 abbrev pub SplitFinds : Type 0
 SplitFinds = (pass : Pass) (number : ℕ) (book : Book) → Finds pass book → All (λ entry. is_of number entry ≡ false) book.entries → Finds (split_off pass number) book
 
+-- Of two passes that find one book each may be joined to the other: nothing is lost, and the joined pass finds the book.
 pub record JoinsAndFinds (pass other new : Pass) (book : Book) : Type 0 where
   pub joins : Joins pass other new
   pub finds : Finds new book
@@ -166,6 +167,7 @@ pub record Goes (store : KeyedStore) (seen : List Entry) (asked : List Asked) (u
   pub session : Session store seen after.number asked used replies after.seen
   pub turns : TurnsOf before replies after.turns
 
+-- it begins with no request, at any pass
 abbrev pub GoesBegins : Type 0
 GoesBegins = (store : KeyedStore) (pass : Pass) → Goes store pass.seen [] used_nothing [] pass.turns pass
 

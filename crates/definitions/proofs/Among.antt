@@ -6,7 +6,7 @@ use Rattle.std.proofs.lemmas.Bool.{eqb-false}
 use Rattle.std.proofs.lemmas.Bool.Decides.{nat_tests}
 use Rattle.std.proofs.lemmas.List.Sorted.{Contains-permutation}
 use Rattle.std.proofs.lemmas.Map.Keys.{IsDistinct-IsPermutation}
-use Rattle.definitions.specs.Journal.{HaveOwnIds}
+use Rattle.definitions.specs.Journal.{HaveDistinctIds}
 
 -- x is one of the list
 abbrev pub Among : {X : Type 0} → X → List X → Type 0
@@ -86,48 +86,48 @@ module _ (X : Type 0) where
   -- ---- own ids
 
   module _ (id_of : X → ℕ) where
-    pub HaveOwnIds-none : HaveOwnIds id_of []
+    pub HaveDistinctIds-none : HaveDistinctIds id_of []
     unfolding IsDistinct
-    HaveOwnIds-none = tt
+    HaveDistinctIds-none = tt
 
-    pub HaveOwnIds-more : (xs : List X) (y : X) → HaveOwnIds id_of xs → list_any (λ x. eqb (id_of x) (id_of y)) xs ≡ false → HaveOwnIds id_of (xs ++ y ∷ [])
+    pub HaveDistinctIds-more : (xs : List X) (y : X) → HaveDistinctIds id_of xs → list_any (λ x. eqb (id_of x) (id_of y)) xs ≡ false → HaveDistinctIds id_of (xs ++ y ∷ [])
     unfolding IsDistinct
-    HaveOwnIds-more [] y own new = (tt, tt)
-    HaveOwnIds-more (x ∷ xs) y own new =
+    HaveDistinctIds-more [] y own new = (tt, tt)
+    HaveDistinctIds-more (x ∷ xs) y own new =
         let apart = either_false (eqb (id_of x) (id_of y)) (list_any (λ x. eqb (id_of x) (id_of y)) xs) new in
-        (AllByRecursion-more (λ z. eqb (id_of x) (id_of z) ≡ false) xs y own.0 apart.0, HaveOwnIds-more xs y own.1 apart.1)
+        (AllByRecursion-more (λ z. eqb (id_of x) (id_of z) ≡ false) xs y own.0 apart.0, HaveDistinctIds-more xs y own.1 apart.1)
 
-    pub HaveOwnIds-filter : (passes : X → Bool) (xs : List X) → HaveOwnIds id_of xs → HaveOwnIds id_of (filter passes xs)
+    pub HaveDistinctIds-filter : (passes : X → Bool) (xs : List X) → HaveDistinctIds id_of xs → HaveDistinctIds id_of (filter passes xs)
     unfolding IsDistinct
-    HaveOwnIds-filter passes [] own = tt
-    HaveOwnIds-filter passes (x ∷ xs) own = by (passes x) (HaveOwnIds-filter passes xs own.1)
+    HaveDistinctIds-filter passes [] own = tt
+    HaveDistinctIds-filter passes (x ∷ xs) own = by (passes x) (HaveDistinctIds-filter passes xs own.1)
       where
-        by : (t : Bool) → HaveOwnIds id_of (filter passes xs) → HaveOwnIds id_of (cond t (x ∷ filter passes xs) (filter passes xs))
+        by : (t : Bool) → HaveDistinctIds id_of (filter passes xs) → HaveDistinctIds id_of (cond t (x ∷ filter passes xs) (filter passes xs))
         by true more = (AllByRecursion-filter (λ y. eqb (id_of x) (id_of y) ≡ false) passes xs own.0, more)
         by false more = more
 
     flips : (a b : X) → eqb (id_of a) (id_of b) ≡ eqb (id_of b) (id_of a)
     flips a b = eqb_flips (id_of a) (id_of b)
 
-    pub HaveOwnIds-permutation : (xs ys : List X) → IsPermutation xs ys → HaveOwnIds id_of xs → HaveOwnIds id_of ys
-    HaveOwnIds-permutation xs ys p own = IsDistinct-IsPermutation (λ a b. eqb (id_of a) (id_of b)) flips xs ys p own
+    pub HaveDistinctIds-permutation : (xs ys : List X) → IsPermutation xs ys → HaveDistinctIds id_of xs → HaveDistinctIds id_of ys
+    HaveDistinctIds-permutation xs ys p own = IsDistinct-IsPermutation (λ a b. eqb (id_of a) (id_of b)) flips xs ys p own
 
     -- a member has another id than those behind it
-    pub HaveOwnIds-apart : (x : X) (xs : List X) (y : X) → HaveOwnIds id_of (x ∷ xs) → Among y xs → id_of x ≢ id_of y
+    pub HaveDistinctIds-apart : (x : X) (xs : List X) (y : X) → HaveDistinctIds id_of (x ∷ xs) → Among y xs → id_of x ≢ id_of y
     unfolding IsDistinct
-    HaveOwnIds-apart x xs y own m = eqb-false (id_of x) (id_of y) (AllByRecursion-Among (λ z. eqb (id_of x) (id_of z) ≡ false) xs y own.0 m)
+    HaveDistinctIds-apart x xs y own m = eqb-false (id_of x) (id_of y) (AllByRecursion-Among (λ z. eqb (id_of x) (id_of z) ≡ false) xs y own.0 m)
 
-    pub HaveOwnIds-tail : (x : X) (xs : List X) → HaveOwnIds id_of (x ∷ xs) → HaveOwnIds id_of xs
+    pub HaveDistinctIds-tail : (x : X) (xs : List X) → HaveDistinctIds id_of (x ∷ xs) → HaveDistinctIds id_of xs
     unfolding IsDistinct
-    HaveOwnIds-tail x xs own = own.1
+    HaveDistinctIds-tail x xs own = own.1
 
     -- an id tells the member
-    pub HaveOwnIds-one : (xs : List X) (a b : X) → HaveOwnIds id_of xs → Among a xs → Among b xs → id_of a ≡ id_of b → a ≡ b
-    HaveOwnIds-one [] a b own m n same = absurd m
-    HaveOwnIds-one (x ∷ xs) a b own (inl e) (inl f) same = e ∙ sym f
-    HaveOwnIds-one (x ∷ xs) a b own (inl e) (inr n) same = absurd (HaveOwnIds-apart x xs b own n (ap id_of (sym e) ∙ same))
-    HaveOwnIds-one (x ∷ xs) a b own (inr m) (inl f) same = absurd (HaveOwnIds-apart x xs a own m (ap id_of (sym f) ∙ sym same))
-    HaveOwnIds-one (x ∷ xs) a b own (inr m) (inr n) same = HaveOwnIds-one xs a b (HaveOwnIds-tail x xs own) m n same
+    pub HaveDistinctIds-one : (xs : List X) (a b : X) → HaveDistinctIds id_of xs → Among a xs → Among b xs → id_of a ≡ id_of b → a ≡ b
+    HaveDistinctIds-one [] a b own m n same = absurd m
+    HaveDistinctIds-one (x ∷ xs) a b own (inl e) (inl f) same = e ∙ sym f
+    HaveDistinctIds-one (x ∷ xs) a b own (inl e) (inr n) same = absurd (HaveDistinctIds-apart x xs b own n (ap id_of (sym e) ∙ same))
+    HaveDistinctIds-one (x ∷ xs) a b own (inr m) (inl f) same = absurd (HaveDistinctIds-apart x xs a own m (ap id_of (sym f) ∙ sym same))
+    HaveDistinctIds-one (x ∷ xs) a b own (inr m) (inr n) same = HaveDistinctIds-one xs a b (HaveDistinctIds-tail x xs own) m n same
 
   -- ---- strict orders
 

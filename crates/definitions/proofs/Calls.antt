@@ -3,7 +3,7 @@ use Rattle.std.proofs.Common.{◌≡◌, ℕ, zero, suc, ◌-◌, ◌^◌, ◌<�
 use Rattle.std.proofs.lemmas.Bool.{eqb-true}
 use Rattle.definitions.specs.Spelling.{IsBytes}
 use Rattle.definitions.specs.Ids.{id_text}
-use Rattle.definitions.specs.Calls.{SearchMode, by_prefix, by_substring, Argument, a_text, an_integer, Kind, any_text, empty_text, id_digits, signed_64, from_to, IsOfKind, start_kinds, end_kinds, plain_search_kinds, plain_kinds, mode_number, PlainCall, start_call, end_call, search_call, call_number, arguments, SpellsArguments, SpellsNumbered, IdFits, SpellsCall, WrongAt}
+use Rattle.definitions.specs.Calls.{SearchMode, by_prefix, by_substring, Argument, a_text, an_integer, Kind, any_text, empty_text, id_digits, signed_64, from_to, IsOfKind, start_kinds, end_kinds, plain_search_kinds, plain_kinds, mode_number, PlainCall, plain_start_call, plain_end_call, plain_search_call, call_number, arguments, SpellsArguments, SpellsNumbered, IdFits, SpellsCall, WrongAt}
 use Rattle.definitions.specs.Reading.{call_at}
 use Rattle.definitions.proofs.Ids.{id_text-one}
 use Rattle.definitions.proofs.Numbered.{by_test, numbered_spelled, numbered_or_wrong, numbered_read, numbered_one, never_both}
@@ -68,18 +68,18 @@ IsCallOf c good call = IdFits call × (c ≡ call_number call) × (good ≡ argu
 
 start_list : (good more_a more_b more_c more_d : List Argument) (a b c d : Argument) (command cwd session hostname : List ℕ)
     → good ≡ a ∷ more_a → more_a ≡ b ∷ more_b → more_b ≡ c ∷ more_c → more_c ≡ d ∷ more_d → more_d ≡ [] → a ≡ a_text command → b ≡ a_text cwd → c ≡ a_text session → d ≡ a_text hostname
-    → good ≡ arguments (start_call command cwd session hostname)
+    → good ≡ arguments (plain_start_call command cwd session hostname)
 start_list good more_a more_b more_c more_d a b c d command cwd session hostname e1 e2 e3 e4 e5 a_is b_is c_is d_is = cc
 
 end_list : (good more_a more_b more_c : List Argument) (a b c : Argument) (id : ℕ) (duration exit : ℤ)
     → good ≡ a ∷ more_a → more_a ≡ b ∷ more_b → more_b ≡ c ∷ more_c → more_c ≡ [] → a ≡ a_text (id_text id) → b ≡ an_integer duration → c ≡ an_integer exit
-    → good ≡ arguments (end_call id duration exit)
+    → good ≡ arguments (plain_end_call id duration exit)
 end_list good more_a more_b more_c a b c id duration exit e1 e2 e3 e4 a_is b_is c_is = cc
 
 search_list : (good more_a more_b more_c more_d more_f more_g more_h : List Argument) (a b c d f g h : Argument) (mode : SearchMode) (past : List ℕ) (offset limit number filter unique : ℕ)
     → good ≡ a ∷ more_a → more_a ≡ b ∷ more_b → more_b ≡ c ∷ more_c → more_c ≡ d ∷ more_d → more_d ≡ f ∷ more_f → more_f ≡ g ∷ more_g → more_g ≡ h ∷ more_h → more_h ≡ []
     → a ≡ an_integer (pos number) → number ≡ mode_number mode → b ≡ an_integer (pos filter) → filter ≡ 0 → c ≡ a_text past → d ≡ a_text [] → f ≡ an_integer (pos unique) → unique ≡ 0
-    → g ≡ an_integer (pos offset) → h ≡ an_integer (pos limit) → good ≡ arguments (search_call mode past offset limit)
+    → g ≡ an_integer (pos offset) → h ≡ an_integer (pos limit) → good ≡ arguments (plain_search_call mode past offset limit)
 search_list good more_a more_b more_c more_d more_f more_g more_h a b c d f g h mode past offset limit number filter unique e1 e2 e3 e4 e5 e6 e7 e8 a_is m b_is n c_is d_is f_is u g_is h_is = cc
 
 start_is : (good : List Argument) (spelled : List ℕ) → SpellsArguments start_kinds good spelled → (call : PlainCall) × IsCallOf 1 good call
@@ -93,7 +93,7 @@ start_is good spelled s =
     let cwd = a_text_is b.0 b.3 in
     let session = a_text_is c.0 c.3 in
     let hostname = a_text_is d.0 d.3 in
-    (start_call command.0 cwd.0 session.0 hostname.0, (tt, refl, start_list good a.1 b.1 c.1 d.1 a.0 b.0 c.0 d.0 command.0 cwd.0 session.0 hostname.0 a.2 b.2 c.2 d.2 nothing command.1 cwd.1 session.1 hostname.1))
+    (plain_start_call command.0 cwd.0 session.0 hostname.0, (tt, refl, start_list good a.1 b.1 c.1 d.1 a.0 b.0 c.0 d.0 command.0 cwd.0 session.0 hostname.0 a.2 b.2 c.2 d.2 nothing command.1 cwd.1 session.1 hostname.1))
 
 end_is : (good : List Argument) (spelled : List ℕ) → SpellsArguments end_kinds good spelled → (call : PlainCall) × IsCallOf 2 good call
 end_is good spelled s =
@@ -104,7 +104,7 @@ end_is good spelled s =
     let id = an_id_is a.0 a.3 in
     let duration = an_integer_is b.0 b.3 in
     let exit = an_integer_is c.0 c.3 in
-    (end_call id.0 duration.0 exit.0, (id.1, refl, end_list good a.1 b.1 c.1 a.0 b.0 c.0 id.0 duration.0 exit.0 a.2 b.2 c.2 nothing id.2 duration.1 exit.1))
+    (plain_end_call id.0 duration.0 exit.0, (id.1, refl, end_list good a.1 b.1 c.1 a.0 b.0 c.0 id.0 duration.0 exit.0 a.2 b.2 c.2 nothing id.2 duration.1 exit.1))
 
 search_is : (good : List Argument) (spelled : List ℕ) → SpellsArguments plain_search_kinds good spelled → (call : PlainCall) × IsCallOf 4 good call
 search_is good spelled s =
@@ -125,7 +125,7 @@ search_is good spelled s =
     let limit = a_number_is 1 1000 h.0 h.3 in
     let no_filter : filter.0 ≡ 0 = let most = filter.2 in omega arith in
     let not_unique : unique.0 ≡ 0 = let most = unique.2 in omega arith in (
-      search_call mode.0 past.0 offset.0 limit.0,
+      plain_search_call mode.0 past.0 offset.0 limit.0,
       (
         tt,
         refl,
@@ -165,18 +165,18 @@ modes_apart by_substring by_prefix e = absurd (omega arith)
 modes_apart by_substring by_substring e = refl
 
 calls_apart : (a b : PlainCall) → IdFits a → IdFits b → call_number a ≡ call_number b → arguments a ≡ arguments b → a ≡ b
-calls_apart (start_call a b c d) (start_call a' b' c' d') fits fits' n e = cc
-calls_apart (start_call a b c d) (end_call id duration exit) fits fits' n e = absurd (omega arith)
-calls_apart (start_call a b c d) (search_call mode past offset limit) fits fits' n e = absurd (omega arith)
-calls_apart (end_call id duration exit) (start_call a b c d) fits fits' n e = absurd (omega arith)
-calls_apart (end_call id duration exit) (end_call id' duration' exit') fits fits' n e =
+calls_apart (plain_start_call a b c d) (plain_start_call a' b' c' d') fits fits' n e = cc
+calls_apart (plain_start_call a b c d) (plain_end_call id duration exit) fits fits' n e = absurd (omega arith)
+calls_apart (plain_start_call a b c d) (plain_search_call mode past offset limit) fits fits' n e = absurd (omega arith)
+calls_apart (plain_end_call id duration exit) (plain_start_call a b c d) fits fits' n e = absurd (omega arith)
+calls_apart (plain_end_call id duration exit) (plain_end_call id' duration' exit') fits fits' n e =
     let text : id_text id ≡ id_text id' = cc in
     let same : id ≡ id' = id_text-one id id' fits fits' text in
     cc
-calls_apart (end_call id duration exit) (search_call mode past offset limit) fits fits' n e = absurd (omega arith)
-calls_apart (search_call mode past offset limit) (start_call a b c d) fits fits' n e = absurd (omega arith)
-calls_apart (search_call mode past offset limit) (end_call id duration exit) fits fits' n e = absurd (omega arith)
-calls_apart (search_call mode past offset limit) (search_call mode' past' offset' limit') fits fits' n e =
+calls_apart (plain_end_call id duration exit) (plain_search_call mode past offset limit) fits fits' n e = absurd (omega arith)
+calls_apart (plain_search_call mode past offset limit) (plain_start_call a b c d) fits fits' n e = absurd (omega arith)
+calls_apart (plain_search_call mode past offset limit) (plain_end_call id duration exit) fits fits' n e = absurd (omega arith)
+calls_apart (plain_search_call mode past offset limit) (plain_search_call mode' past' offset' limit') fits fits' n e =
     let number : mode_number mode ≡ mode_number mode' = cc in
     let same : mode ≡ mode' = modes_apart mode mode' number in
     cc

@@ -3,9 +3,9 @@ use Rattle.std.proofs.Common.{◌≡◌, ◌≢◌, ℕ, suc, ◌+◌, Bool, con
 use Rattle.std.proofs.lemmas.List.{take_at, drop_at}
 use Rattle.std.specs.List.{All}
 use Rattle.definitions.specs.Spelling.{IsBytes}
-use Rattle.definitions.specs.Calls.{PlainCall, start_call, end_call, search_call, SpellsCall, plain_kinds, WrongAt}
+use Rattle.definitions.specs.Calls.{PlainCall, plain_start_call, plain_end_call, plain_search_call, SpellsCall, plain_kinds, WrongAt}
 use Rattle.definitions.specs.Journal.{JournalEntry, SoundJournal}
-use Rattle.definitions.specs.Replies.{PlainAnswer, began_id, stored_index, hit_list, unknown_id, random_fault, id_taken, no_memory, bad_request, PlainReply, is_plain_refusal}
+use Rattle.definitions.specs.Replies.{PlainAnswer, plain_began_id, plain_stored_index, plain_hit_list, plain_unknown_id, plain_random_fault, plain_id_taken, plain_no_memory, plain_bad_request, PlainReply, is_plain_refusal}
 use Rattle.definitions.specs.Step.{Used, then_used, PlainStep, unread, start_failed, start_taken, start_done, start_short, end_unbegun, end_again, end_done, end_short, searched, search_short}
 use Rattle.definitions.specs.Runs.{Run, is_random_fault}
 use Rattle.definitions.proofs.Calls.{one_call, call_never_wrong}
@@ -17,14 +17,14 @@ use Rattle.definitions.proofs.Outcomes.{Step-one}
 
 -- how many readings a call takes, and how many bytes it draws
 abbrev pub readings_of : PlainCall → ℕ
-readings_of (start_call command cwd session hostname) = 1
-readings_of (end_call id duration exit) = 1
-readings_of (search_call mode past offset limit) = 0
+readings_of (plain_start_call command cwd session hostname) = 1
+readings_of (plain_end_call id duration exit) = 1
+readings_of (plain_search_call mode past offset limit) = 0
 
 abbrev pub draws_of : PlainCall → Bool → ℕ
-draws_of (start_call command cwd session hostname) failed = cond failed 0 10
-draws_of (end_call id duration exit) failed = 0
-draws_of (search_call mode past offset limit) failed = 0
+draws_of (plain_start_call command cwd session hostname) failed = cond failed 0 10
+draws_of (plain_end_call id duration exit) failed = 0
+draws_of (plain_search_call mode past offset limit) failed = 0
 
 pub data Uses (payload : List ℕ) (used : Used) (answer : PlainAnswer) : Type 0 where
   uses_nothing : (place : ℕ) → WrongAt plain_kinds payload place → length used.readings ≡ 0 → length used.drawn ≡ 0 → Uses payload used answer
@@ -78,15 +78,15 @@ one_use payload reply a b x y are p q faults e =
 
 -- ---- one journal
 
-is_no_memory : (answer : PlainAnswer) → (answer ≡ no_memory) ⊎ (answer ≢ no_memory)
-is_no_memory (began_id id) = inr (λ e. cc)
-is_no_memory (stored_index index) = inr (λ e. cc)
-is_no_memory (hit_list hits) = inr (λ e. cc)
-is_no_memory (unknown_id id) = inr (λ e. cc)
-is_no_memory random_fault = inr (λ e. cc)
-is_no_memory (id_taken id) = inr (λ e. cc)
-is_no_memory no_memory = inl refl
-is_no_memory (bad_request place) = inr (λ e. cc)
+is_no_memory : (answer : PlainAnswer) → (answer ≡ plain_no_memory) ⊎ (answer ≢ plain_no_memory)
+is_no_memory (plain_began_id id) = inr (λ e. cc)
+is_no_memory (plain_stored_index index) = inr (λ e. cc)
+is_no_memory (plain_hit_list hits) = inr (λ e. cc)
+is_no_memory (plain_unknown_id id) = inr (λ e. cc)
+is_no_memory plain_random_fault = inr (λ e. cc)
+is_no_memory (plain_id_taken id) = inr (λ e. cc)
+is_no_memory plain_no_memory = inl refl
+is_no_memory (plain_bad_request place) = inr (λ e. cc)
 
 pub Step-journal : (old : List JournalEntry) (payload : List ℕ) (used : Used) (reply : PlainReply) (new new' : List JournalEntry) → IsBytes payload → SoundJournal old → PlainStep old payload used reply new → PlainStep old payload used reply new' → new ≡ new'
 Step-journal old payload used reply new new' are sound step step' =

@@ -13,11 +13,11 @@ use Rattle.std.proofs.lemmas.Str.{IsUtf8-nil, IsUtf8-from_is_utf8}
 use Rattle.definitions.specs.Spelling.{IsBytes, positive_fixint, negative_fixint, uint_8, uint_16, uint_32, uint_64, int_8, int_16, int_32, int_64, integer_bytes, SpellsInteger, fixstr, str_8, str_16, str_32, SpellsText, fixarray, array_16, array_32}
 use Rattle.definitions.specs.Frames.{most_payload_bytes, frame, frames, CutFrame, LongFrame}
 use Rattle.definitions.specs.Ids.{id_text, made_id}
-use Rattle.definitions.specs.Calls.{SearchMode, by_prefix, by_substring, Argument, PlainCall, start_call, end_call, search_call, mode_number, call_number, arguments, a_text, any_text, start_kinds, end_kinds, plain_search_kinds, SpellsArguments, SpellsCall, plain_kinds, WrongAt}
+use Rattle.definitions.specs.Calls.{SearchMode, by_prefix, by_substring, Argument, PlainCall, plain_start_call, plain_end_call, plain_search_call, mode_number, call_number, arguments, a_text, any_text, start_kinds, end_kinds, plain_search_kinds, SpellsArguments, SpellsCall, plain_kinds, WrongAt}
 use Rattle.definitions.specs.Reading.{array_at, integer_at, text_head_at, text_at, argument_at, arguments_at, last_arguments_at, call_at}
 use Rattle.definitions.specs.Journal.{StartedRecord, HistoryRecord, JournalEntry, begun, ended, ended_in, was_begun, has_ended, finished, SoundJournal}
 use Rattle.definitions.specs.Search.{is_shown_before, hit_bytes, IsAnswer}
-use Rattle.definitions.specs.Replies.{PlainAnswer, began_id, stored_index, hit_list, unknown_id, random_fault, id_taken, no_memory, bad_request, PlainReply, plain_reply_bytes}
+use Rattle.definitions.specs.Replies.{PlainAnswer, plain_began_id, plain_stored_index, plain_hit_list, plain_unknown_id, plain_random_fault, plain_id_taken, plain_no_memory, plain_bad_request, PlainReply, plain_reply_bytes}
 use Rattle.definitions.specs.Step.{Used, used_nothing, read_and_drew, read_clock, PlainRefuses, Answers, PlainStep, unread, start_failed, start_taken, start_done, start_short, end_unbegun, end_again, end_done, end_short, searched, search_short}
 use Rattle.definitions.specs.Examples.{WorkedIntegers, WorkedTexts, WorkedArrays, WorkedNoItems, WorkedFrames, WorkedStreams, WorkedIds, first_time, first_id, first_digits, ten_bytes, ls, start_ls, start_payload, end_ls, end_payload, all_hits, all_payload, WorkedCalls, WorkedFaults, ls_ended, pwd, pwd_ended, one_running, WorkedJournals, hit_at, three_ended, WorkedMatches, WorkedSearches, WorkedReplies, at_front, used_by_start, used_by_end, nothing_used, three_replies, WorkedSteps, WorkedWants, WorkedRuns}
 use Rattle.definitions.proofs.Search.{whole_page}
@@ -282,7 +282,7 @@ start_spelled_wide = record {
 digits_spelled : SpellsText (id_text first_id) (0xd9 ∷ 0x20 ∷ first_digits)
 digits_spelled = subst (λ (text : List ℕ). SpellsText text (0xd9 ∷ 0x20 ∷ first_digits)) digits_are_of_id (record { form = str_8; fits = omega arith; utf8 = digits_are_utf8; are = refl })
 
-end_spelled_so : (duration exit : ℤ) (a b : List ℕ) → FitsSigned w64 duration → FitsSigned w64 exit → SpellsInteger duration a → SpellsInteger exit b → SpellsCall (end_call first_id duration exit) (0x94 ∷ 0x02 ∷ 0xd9 ∷ 0x20 ∷ (first_digits ++ (a ++ (b ++ []))))
+end_spelled_so : (duration exit : ℤ) (a b : List ℕ) → FitsSigned w64 duration → FitsSigned w64 exit → SpellsInteger duration a → SpellsInteger exit b → SpellsCall (plain_end_call first_id duration exit) (0x94 ∷ 0x02 ∷ 0xd9 ∷ 0x20 ∷ (first_digits ++ (a ++ (b ++ []))))
 end_spelled_so duration exit a b d e s t = record {
   id_fits = omega arith;
   numbered = record {
@@ -300,7 +300,7 @@ end_spelled_so duration exit a b d e s t = record {
 
 -- a Search: its mode, the text that is read past, its offset and limit
 search_spelled_so : (mode : SearchMode) (past : List ℕ) (first most : ℕ) (text offset limit : List ℕ) → mode_number mode ≤ 1 → first ≤ 4294967295 → 1 ≤ most → most ≤ 1000 → SpellsText past text → SpellsInteger (pos first) offset → SpellsInteger (pos most) limit
-    → SpellsCall (search_call mode past first most) (0x98 ∷ 0x04 ∷ (integer_bytes positive_fixint (pos (mode_number mode)) ++ (0x00 ∷ (text ++ (0xa0 ∷ 0x00 ∷ (offset ++ (limit ++ [])))))))
+    → SpellsCall (plain_search_call mode past first most) (0x98 ∷ 0x04 ∷ (integer_bytes positive_fixint (pos (mode_number mode)) ++ (0x00 ∷ (text ++ (0xa0 ∷ 0x00 ∷ (offset ++ (limit ++ [])))))))
 search_spelled_so mode past first most text offset limit mode_fits far least above t o l = record {
   id_fits = tt;
   numbered = record {
@@ -427,10 +427,10 @@ of_only s t P c at_t = elim (Among-from_place StartedRecord (s ∷ []) t c.0 c.1
   | inr none ↦ absurd none
 ]
 
-begins_as : (h : HistoryRecord) (s : StartedRecord) → SoundJournal (begun s ∷ ended h ∷ []) → h ≡ finished s h.duration h.exit
+begins_as : (h : HistoryRecord) (s : StartedRecord) → SoundJournal (begun s ∷ ended h ∷ []) → h ≡ finished s h.duration h.exit None
 begins_as h s sound =
     let found = sound.ended_begun h (0, omega arith, refl) in
-    of_only s found.0 (λ (t : StartedRecord). h ≡ finished t h.duration h.exit) found.1 found.2
+    of_only s found.0 (λ (t : StartedRecord). h ≡ finished t h.duration h.exit None) found.1 found.2
 
 pub journals : WorkedJournals
 unfolding IsDistinct
@@ -449,7 +449,7 @@ journals = record {
   sound = record {
     begun_own = ((refl, tt), (tt, tt));
     ended_own = (tt, tt);
-    ended_begun = λ h c. (ls, (0, omega arith, refl), only_ls_ended (λ (x : HistoryRecord). x ≡ finished ls x.duration x.exit) h c refl);
+    ended_begun = λ h c. (ls, (0, omega arith, refl), only_ls_ended (λ (x : HistoryRecord). x ≡ finished ls x.duration x.exit None) h c refl);
   };
   begun_again = λ sound. let e : true ≡ false = sound.begun_own.0.0 in absurd cc;
   ended_again = λ sound. let e : true ≡ false = sound.ended_own.0.0 in absurd cc;
@@ -490,6 +490,7 @@ matches = record {
   greater_id = refl;
   itself = refl;
   bytes = refl;
+  authored_bytes = refl;
 }
 
 -- the three, newest first
@@ -542,6 +543,7 @@ replies_worked = record {
   of_end = refl;
   of_later_end = refl;
   of_search = refl;
+  of_authored = refl;
   of_no_hits = refl;
   of_unknown_id = refl;
   of_random_fault = refl;
@@ -557,13 +559,13 @@ replies_worked = record {
 shows_ls : IsAnswer 0 10 (ls_ended ∷ []) (ls_ended ∷ [])
 shows_ls = record { in_order = ls_ended ∷ []; all = IsPermutation-refl (ls_ended ∷ []); sorted = λ k d low high. absurd (omega arith); cut = whole_page hit_bytes 10 (ls_ended ∷ []) (omega arith, inl (omega arith)) }
 
-begins : PlainStep [] start_payload used_by_start (at_front 1 (began_id first_id)) (begun ls ∷ [])
+begins : PlainStep [] start_payload used_by_start (at_front 1 (plain_began_id first_id)) (begun ls ∷ [])
 begins = start_done (codes "ls") (codes "/") (codes "s1") (codes "h:u") first_time ten_bytes start_spelled refl refl refl (record { journal = refl; reply_is = refl })
 
-ends : PlainStep (begun ls ∷ []) end_payload used_by_end (at_front 2 (stored_index 0)) (begun ls ∷ ended ls_ended ∷ [])
+ends : PlainStep (begun ls ∷ []) end_payload used_by_end (at_front 2 (plain_stored_index 0)) (begun ls ∷ ended ls_ended ∷ [])
 ends = end_done first_id (pos 1000) (pos 0) 5 ls end_spelled refl (0, omega arith, refl) refl refl (record { journal = refl; reply_is = refl })
 
-shows : (journal : List JournalEntry) → ended_in journal ≡ ls_ended ∷ [] → PlainStep journal all_payload nothing_used (at_front (length journal) (hit_list (ls_ended ∷ []))) journal
+shows : (journal : List JournalEntry) → ended_in journal ≡ ls_ended ∷ [] → PlainStep journal all_payload nothing_used (at_front (length journal) (plain_hit_list (ls_ended ∷ []))) journal
 shows journal one = searched by_prefix [] 0 10 (ls_ended ∷ []) all_spelled refl (subst (λ (hs : List HistoryRecord). IsAnswer 0 10 hs (ls_ended ∷ [])) (sym one) shows_ls) (record { journal = refl; reply_is = refl })
 
 great_number : WrongAt plain_kinds (0x91 ∷ 0x63 ∷ []) 1
@@ -587,47 +589,47 @@ steps = record {
 
 -- how a payload is answered by want of memory
 data Short (old : List JournalEntry) (payload : List ℕ) (used : Used) (new : List JournalEntry) : Type 0 where
-  of_start : (command cwd session hostname : List ℕ) (now : ℕ) (drawn : List ℕ) → SpellsCall (start_call command cwd session hostname) payload → length drawn ≡ 10 → used ≡ read_and_drew now drawn → was_begun (made_id now drawn) old ≡ false → new ≡ old → Short old payload used new
-  of_end : (id : ℕ) (duration exit : ℤ) (now : ℕ) → SpellsCall (end_call id duration exit) payload → used ≡ read_clock now → was_begun id old ≡ true → has_ended id old ≡ false → new ≡ old → Short old payload used new
-  of_search : (mode : SearchMode) (past : List ℕ) (offset limit : ℕ) → SpellsCall (search_call mode past offset limit) payload → used ≡ used_nothing → new ≡ old → Short old payload used new
+  of_start : (command cwd session hostname : List ℕ) (now : ℕ) (drawn : List ℕ) → SpellsCall (plain_start_call command cwd session hostname) payload → length drawn ≡ 10 → used ≡ read_and_drew now drawn → was_begun (made_id now drawn) old ≡ false → new ≡ old → Short old payload used new
+  of_end : (id : ℕ) (duration exit : ℤ) (now : ℕ) → SpellsCall (plain_end_call id duration exit) payload → used ≡ read_clock now → was_begun id old ≡ true → has_ended id old ≡ false → new ≡ old → Short old payload used new
+  of_search : (mode : SearchMode) (past : List ℕ) (offset limit : ℕ) → SpellsCall (plain_search_call mode past offset limit) payload → used ≡ used_nothing → new ≡ old → Short old payload used new
 
-module _ (old : List JournalEntry) (reply : PlainReply) (new : List JournalEntry) (short : reply.answer ≡ no_memory) where
-  other_refused : (answer : PlainAnswer) → PlainRefuses old new reply answer → answer ≡ no_memory
+module _ (old : List JournalEntry) (reply : PlainReply) (new : List JournalEntry) (short : reply.answer ≡ plain_no_memory) where
+  other_refused : (answer : PlainAnswer) → PlainRefuses old new reply answer → answer ≡ plain_no_memory
   other_refused answer r = sym (ap (λ (x : PlainReply). x.answer) r.reply_is) ∙ short
 
-  other_answered : (made : List JournalEntry) (answer : PlainAnswer) → Answers made new reply answer → answer ≡ no_memory
+  other_answered : (made : List JournalEntry) (answer : PlainAnswer) → Answers made new reply answer → answer ≡ plain_no_memory
   other_answered made answer a = sym (ap (λ (x : PlainReply). x.answer) a.reply_is) ∙ short
 
   short_of : (payload : List ℕ) (used : Used) → PlainStep old payload used reply new → Short old payload used new
-  short_of payload used (unread place w u r) = let e = other_refused (bad_request place) r in absurd cc
-  short_of payload used (start_failed c d s h now spelled u r) = let e = other_refused random_fault r in absurd cc
-  short_of payload used (start_taken c d s h now drawn spelled ten u taken r) = let e = other_refused (id_taken (made_id now drawn)) r in absurd cc
-  short_of payload used (start_done c d s h now drawn spelled ten u free a) = let e = other_answered _ (began_id (made_id now drawn)) a in absurd cc
+  short_of payload used (unread place w u r) = let e = other_refused (plain_bad_request place) r in absurd cc
+  short_of payload used (start_failed c d s h now spelled u r) = let e = other_refused plain_random_fault r in absurd cc
+  short_of payload used (start_taken c d s h now drawn spelled ten u taken r) = let e = other_refused (plain_id_taken (made_id now drawn)) r in absurd cc
+  short_of payload used (start_done c d s h now drawn spelled ten u free a) = let e = other_answered _ (plain_began_id (made_id now drawn)) a in absurd cc
   short_of payload used (start_short c d s h now drawn spelled ten u free r) = of_start c d s h now drawn spelled ten u free r.journal
-  short_of payload used (end_unbegun id duration exit now spelled u never r) = let e = other_refused (unknown_id id) r in absurd cc
-  short_of payload used (end_again id duration exit now spelled u over r) = let e = other_refused (unknown_id id) r in absurd cc
-  short_of payload used (end_done id duration exit now s spelled u c same runs a) = let e = other_answered _ (stored_index (length (ended_in old))) a in absurd cc
+  short_of payload used (end_unbegun id duration exit now spelled u never r) = let e = other_refused (plain_unknown_id id) r in absurd cc
+  short_of payload used (end_again id duration exit now spelled u over r) = let e = other_refused (plain_unknown_id id) r in absurd cc
+  short_of payload used (end_done id duration exit now s spelled u c same runs a) = let e = other_answered _ (plain_stored_index (length (ended_in old))) a in absurd cc
   short_of payload used (end_short id duration exit now spelled u was over r) = of_end id duration exit now spelled u was over r.journal
-  short_of payload used (searched mode past offset limit hits spelled u found a) = let e = other_answered _ (hit_list hits) a in absurd cc
+  short_of payload used (searched mode past offset limit hits spelled u found a) = let e = other_answered _ (plain_hit_list hits) a in absurd cc
   short_of payload used (search_short mode past offset limit spelled u r) = of_search mode past offset limit spelled u r.journal
 
 -- the Start is short of memory only with ten bytes drawn, and where their id is free
 start_only : (old new : List JournalEntry) (used : Used) → Short old start_payload used new → (now : ℕ) × (drawn : List ℕ) × (length drawn ≡ 10) × (used ≡ read_and_drew now drawn) × (was_begun (made_id now drawn) old ≡ false)
 start_only old new used (of_start c d s h now drawn spelled ten u free stays) = (now, drawn, ten, u, free)
-start_only old new used (of_end id duration exit now spelled u was over stays) = let e = one_call start_payload start_ls (end_call id duration exit) start_spelled spelled in absurd cc
-start_only old new used (of_search mode past offset limit spelled u stays) = let e = one_call start_payload start_ls (search_call mode past offset limit) start_spelled spelled in absurd cc
+start_only old new used (of_end id duration exit now spelled u was over stays) = let e = one_call start_payload start_ls (plain_end_call id duration exit) start_spelled spelled in absurd cc
+start_only old new used (of_search mode past offset limit spelled u stays) = let e = one_call start_payload start_ls (plain_search_call mode past offset limit) start_spelled spelled in absurd cc
 
 end_only : (old new : List JournalEntry) (used : Used) → Short old end_payload used new → (now : ℕ) × (used ≡ read_clock now) × (was_begun first_id old ≡ true) × (has_ended first_id old ≡ false)
-end_only old new used (of_start c d s h now drawn spelled ten u free stays) = let e = one_call end_payload end_ls (start_call c d s h) end_spelled spelled in absurd cc
+end_only old new used (of_start c d s h now drawn spelled ten u free stays) = let e = one_call end_payload end_ls (plain_start_call c d s h) end_spelled spelled in absurd cc
 end_only old new used (of_end id duration exit now spelled u was over stays) =
-    let e = one_call end_payload end_ls (end_call id duration exit) end_spelled spelled in
+    let e = one_call end_payload end_ls (plain_end_call id duration exit) end_spelled spelled in
     let same : id ≡ first_id = cc in
     (now, u, subst (λ (i : ℕ). was_begun i old ≡ true) same was, subst (λ (i : ℕ). has_ended i old ≡ false) same over)
-end_only old new used (of_search mode past offset limit spelled u stays) = let e = one_call end_payload end_ls (search_call mode past offset limit) end_spelled spelled in absurd cc
+end_only old new used (of_search mode past offset limit spelled u stays) = let e = one_call end_payload end_ls (plain_search_call mode past offset limit) end_spelled spelled in absurd cc
 
 search_only : (old new : List JournalEntry) (used : Used) → Short old all_payload used new → (used ≡ used_nothing) × (new ≡ old)
-search_only old new used (of_start c d s h now drawn spelled ten u free stays) = let e = one_call all_payload all_hits (start_call c d s h) all_spelled spelled in absurd cc
-search_only old new used (of_end id duration exit now spelled u was over stays) = let e = one_call all_payload all_hits (end_call id duration exit) all_spelled spelled in absurd cc
+search_only old new used (of_start c d s h now drawn spelled ten u free stays) = let e = one_call all_payload all_hits (plain_start_call c d s h) all_spelled spelled in absurd cc
+search_only old new used (of_end id duration exit now spelled u was over stays) = let e = one_call all_payload all_hits (plain_end_call id duration exit) all_spelled spelled in absurd cc
 search_only old new used (of_search mode past offset limit spelled u stays) = (u, stays)
 
 nine_drawn : (reply : PlainReply) (new : List JournalEntry) → PlainStep [] start_payload (record { readings = first_time ∷ []; drawn = replicate 9 0; faults = 0 }) reply new → ⊥
@@ -646,7 +648,7 @@ nine_drawn reply new (search_short mode past offset limit spelled u r) = let e =
 pub wants : WorkedWants
 wants = record {
   of_taken = λ new step.
-      let o = start_only (begun ls ∷ []) new used_by_start (short_of (begun ls ∷ []) (at_front 1 no_memory) new refl start_payload used_by_start step) in
+      let o = start_only (begun ls ∷ []) new used_by_start (short_of (begun ls ∷ []) (at_front 1 plain_no_memory) new refl start_payload used_by_start step) in
       let now : first_time ∷ [] ≡ o.0 ∷ [] = ap (λ (x : Used). x.readings) o.3 in
       let time : o.0 ≡ first_time = cc in
       let drawn : o.1 ≡ ten_bytes = sym (ap (λ (x : Used). x.drawn) o.3) in
@@ -654,26 +656,26 @@ wants = record {
       let e : true ≡ false = free in
       absurd cc;
   of_unbegun = λ new step.
-      let o = end_only (begun pwd ∷ []) new used_by_end (short_of (begun pwd ∷ []) (at_front 1 no_memory) new refl end_payload used_by_end step) in
+      let o = end_only (begun pwd ∷ []) new used_by_end (short_of (begun pwd ∷ []) (at_front 1 plain_no_memory) new refl end_payload used_by_end step) in
       let e : false ≡ true = o.2 in
       absurd cc;
   of_ended = λ new step.
-      let o = end_only (begun ls ∷ ended ls_ended ∷ []) new used_by_end (short_of (begun ls ∷ ended ls_ended ∷ []) (at_front 2 no_memory) new refl end_payload used_by_end step) in
+      let o = end_only (begun ls ∷ ended ls_ended ∷ []) new used_by_end (short_of (begun ls ∷ ended ls_ended ∷ []) (at_front 2 plain_no_memory) new refl end_payload used_by_end step) in
       let e : true ≡ false = o.3 in
       absurd cc;
   start_unread = λ new step.
-      let o = start_only [] new nothing_used (short_of [] (at_front 0 no_memory) new refl start_payload nothing_used step) in
+      let o = start_only [] new nothing_used (short_of [] (at_front 0 plain_no_memory) new refl start_payload nothing_used step) in
       let e : [] ≡ o.0 ∷ [] = ap (λ (x : Used). x.readings) o.3 in
       absurd cc;
   end_unread = λ new step.
-      let o = end_only (begun ls ∷ []) new nothing_used (short_of (begun ls ∷ []) (at_front 1 no_memory) new refl end_payload nothing_used step) in
+      let o = end_only (begun ls ∷ []) new nothing_used (short_of (begun ls ∷ []) (at_front 1 plain_no_memory) new refl end_payload nothing_used step) in
       let e : [] ≡ o.0 ∷ [] = ap (λ (x : Used). x.readings) o.1 in
       absurd cc;
   search_read = λ new step.
-      let o = search_only [] new used_by_end (short_of [] (at_front 0 no_memory) new refl all_payload used_by_end step) in
+      let o = search_only [] new used_by_end (short_of [] (at_front 0 plain_no_memory) new refl all_payload used_by_end step) in
       let e : 5 ∷ [] ≡ [] = ap (λ (x : Used). x.readings) o.0 in
       absurd cc;
-  stays = λ new step. (search_only [] new nothing_used (short_of [] (at_front 0 no_memory) new refl all_payload nothing_used step)).1;
+  stays = λ new step. (search_only [] new nothing_used (short_of [] (at_front 0 plain_no_memory) new refl all_payload nothing_used step)).1;
   nine_bytes = nine_drawn;
 }
 
@@ -691,8 +693,8 @@ runs = record {
   split = record {
     used_first = used_by_start;
     used_second = used_by_end;
-    replies_first = at_front 1 (began_id first_id) ∷ [];
-    replies_second = at_front 2 (stored_index 0) ∷ at_front 2 (hit_list (ls_ended ∷ [])) ∷ [];
+    replies_first = at_front 1 (plain_began_id first_id) ∷ [];
+    replies_second = at_front 2 (plain_stored_index 0) ∷ at_front 2 (plain_hit_list (ls_ended ∷ [])) ∷ [];
     middle = begun ls ∷ [];
     first = (used_by_start, nothing_used, begun ls ∷ [], refl, begins, (refl, refl));
     second = (used_by_end, nothing_used, begun ls ∷ ended ls_ended ∷ [], refl, ends, (nothing_used, nothing_used, begun ls ∷ ended ls_ended ∷ [], refl, shows (begun ls ∷ ended ls_ended ∷ []) refl, (refl, refl)));

@@ -133,11 +133,11 @@ empty_text_is : (text : List ℕ) → eqb (length text) 0 ≡ true → text ≡ 
 empty_text_is [] e = refl
 empty_text_is (b ∷ text) e = absurd (let n = eqb-true (length (b ∷ text)) 0 e in omega arith)
 
-fits_64-fits : (z : ℤ) → fits_64 z ≡ true → FitsSigned w64 z
+pub fits_64-fits : (z : ℤ) → fits_64 z ≡ true → FitsSigned w64 z
 fits_64-fits (pos n) e = record { sfits = ltb-true n (2 ^ 63) e }
 fits_64-fits (negsuc n) e = record { sfits = ltb-true n (2 ^ 63) e }
 
-fits-fits_64 : (z : ℤ) → FitsSigned w64 z → fits_64 z ≡ true
+pub fits-fits_64 : (z : ℤ) → FitsSigned w64 z → fits_64 z ≡ true
 fits-fits_64 (pos n) f = lt-ltb n (2 ^ 63) f.sfits
 fits-fits_64 (negsuc n) f = lt-ltb n (2 ^ 63) f.sfits
 

@@ -13,3 +13,6 @@ pub mod Examples
 pub mod Outcomes
 pub mod Determined
 pub mod Ranges
+pub mod Counts
+pub mod Prefixes
+pub mod Lengths

@@ -1,17 +1,17 @@
 -- Unless it is answered by want of memory, a payload has one reply at a sound journal, given what was read of the clock and
 -- drawn.
-use Rattle.std.proofs.Common.{◌≡◌, ◌≢◌, ℕ, ℤ, zero, suc, Bool, true, false, List, [], ◌∷◌, ◌++◌, length, refl, sym, ap, ◌∙◌, inl, inr, ◌⊎◌}
+use Rattle.std.proofs.Common.{◌≡◌, ◌≢◌, ℕ, ℤ, zero, suc, Bool, true, false, List, [], ◌∷◌, ◌++◌, length, None, refl, sym, ap, ◌∙◌, inl, inr, ◌⊎◌}
 use Rattle.std.specs.List.{Contains}
 use Rattle.std.proofs.Common.{eqb}
 use Rattle.std.proofs.lemmas.Bool.{eq-eqb}
 use Rattle.definitions.specs.Spelling.{IsBytes}
-use Rattle.definitions.specs.Calls.{PlainCall, start_call, end_call, search_call, SearchMode, SpellsCall, plain_kinds, WrongAt}
+use Rattle.definitions.specs.Calls.{PlainCall, plain_start_call, plain_end_call, plain_search_call, SearchMode, SpellsCall, plain_kinds, WrongAt}
 use Rattle.definitions.specs.Ids.{made_id}
 use Rattle.definitions.specs.Journal.{StartedRecord, HistoryRecord, JournalEntry, begun, ended, begun_in, ended_in, was_begun, has_ended, finished, SoundJournal}
-use Rattle.definitions.specs.Replies.{PlainAnswer, began_id, stored_index, hit_list, unknown_id, random_fault, id_taken, no_memory, bad_request, PlainReply}
+use Rattle.definitions.specs.Replies.{PlainAnswer, plain_began_id, plain_stored_index, plain_hit_list, plain_unknown_id, plain_random_fault, plain_id_taken, plain_no_memory, plain_bad_request, PlainReply}
 use Rattle.definitions.specs.Search.{IsAnswer}
 use Rattle.definitions.specs.Step.{Used, PlainRefuses, Answers, PlainStep, unread, start_failed, start_taken, start_done, start_short, end_unbegun, end_again, end_done, end_short, searched, search_short}
-use Rattle.definitions.proofs.Among.{Among-from_place, one_passes, HaveOwnIds-one}
+use Rattle.definitions.proofs.Among.{Among-from_place, one_passes, HaveDistinctIds-one}
 use Rattle.definitions.proofs.Calls.{most_kinds, one_call, call_never_wrong}
 use Rattle.definitions.proofs.Numbered.{one_place}
 use Rattle.definitions.proofs.Search.{IsAnswer-one}
@@ -21,20 +21,20 @@ use Rattle.definitions.proofs.Steps.{Step-grows}
 
 module _ (old : List JournalEntry) (command cwd session hostname : List ℕ) where
   abbrev pub drawn_outcome : ℕ → List ℕ → Bool → PlainAnswer × List JournalEntry
-  drawn_outcome now drawn true = (id_taken (made_id now drawn), old)
-  drawn_outcome now drawn false = (began_id (made_id now drawn), old ++ begun (record { id = made_id now drawn; timestamp = now; command = command; cwd = cwd; session = session; hostname = hostname }) ∷ [])
+  drawn_outcome now drawn true = (plain_id_taken (made_id now drawn), old)
+  drawn_outcome now drawn false = (plain_began_id (made_id now drawn), old ++ begun (record { id = made_id now drawn; timestamp = now; command = command; cwd = cwd; session = session; hostname = hostname }) ∷ [])
 
   -- by the readings, the bytes that were drawn and the draws that failed
   abbrev pub start_outcome : List ℕ → List ℕ → ℕ → PlainAnswer × List JournalEntry
-  start_outcome [] drawn faults = (no_memory, old)
+  start_outcome [] drawn faults = (plain_no_memory, old)
   start_outcome (now ∷ readings) drawn zero = drawn_outcome now drawn (was_begun (made_id now drawn) old)
-  start_outcome (now ∷ readings) drawn (suc faults) = (random_fault, old)
+  start_outcome (now ∷ readings) drawn (suc faults) = (plain_random_fault, old)
 
 -- ---- an End
 
 pub data EndOutcome (old : List JournalEntry) (id : ℕ) (duration exit : ℤ) (answer : PlainAnswer) (new : List JournalEntry) : Type 0 where
-  not_running : (was_begun id old ≡ false) ⊎ (has_ended id old ≡ true) → answer ≡ unknown_id id → new ≡ old → EndOutcome old id duration exit answer new
-  running : (s : StartedRecord) → Contains (begun_in old) s → s.id ≡ id → has_ended id old ≡ false → answer ≡ stored_index (length (ended_in old)) → new ≡ old ++ ended (finished s duration exit) ∷ [] → EndOutcome old id duration exit answer new
+  not_running : (was_begun id old ≡ false) ⊎ (has_ended id old ≡ true) → answer ≡ plain_unknown_id id → new ≡ old → EndOutcome old id duration exit answer new
+  running : (s : StartedRecord) → Contains (begun_in old) s → s.id ≡ id → has_ended id old ≡ false → answer ≡ plain_stored_index (length (ended_in old)) → new ≡ old ++ ended (finished s duration exit None) ∷ [] → EndOutcome old id duration exit answer new
 
 module _ (old : List JournalEntry) (id : ℕ) (duration exit : ℤ) (a b : PlainAnswer) (x y : List JournalEntry) (sound : SoundJournal old) where
   apart : (s : StartedRecord) → Contains (begun_in old) s → s.id ≡ id → has_ended id old ≡ false → (was_begun id old ≡ false) ⊎ (has_ended id old ≡ true) → ⊥
@@ -49,17 +49,17 @@ module _ (old : List JournalEntry) (id : ℕ) (duration exit : ℤ) (a b : Plain
   end_one (not_running why is kept) (running s c same runs is' put) = absurd (apart s c same runs why)
   end_one (running s c same runs is put) (not_running why is' kept) = absurd (apart s c same runs why)
   end_one (running s c same runs is put) (running t d same' runs' is' put') =
-      let one : s ≡ t = HaveOwnIds-one StartedRecord (λ r. r.id) (begun_in old) s t sound.begun_own (Among-from_place StartedRecord (begun_in old) s c.0 c.1 c.2) (Among-from_place StartedRecord (begun_in old) t d.0 d.1 d.2) (same ∙ sym same') in
-      (is ∙ sym is', put ∙ ap (λ (r : StartedRecord). old ++ ended (finished r duration exit) ∷ []) one ∙ sym put')
+      let one : s ≡ t = HaveDistinctIds-one StartedRecord (λ r. r.id) (begun_in old) s t sound.begun_own (Among-from_place StartedRecord (begun_in old) s c.0 c.1 c.2) (Among-from_place StartedRecord (begun_in old) t d.0 d.1 d.2) (same ∙ sym same') in
+      (is ∙ sym is', put ∙ ap (λ (r : StartedRecord). old ++ ended (finished r duration exit None) ∷ []) one ∙ sym put')
 
 -- ---- a payload
 
 pub data Outcome (old : List JournalEntry) (payload : List ℕ) (used : Used) (answer : PlainAnswer) (new : List JournalEntry) : Type 0 where
-  was_wrong : (place : ℕ) → WrongAt plain_kinds payload place → answer ≡ bad_request place → new ≡ old → Outcome old payload used answer new
-  was_start : (command cwd session hostname : List ℕ) → SpellsCall (start_call command cwd session hostname) payload → ◌≡◌ {A = PlainAnswer × List JournalEntry} (answer, new) (start_outcome old command cwd session hostname used.readings used.drawn used.faults) → Outcome old payload used answer new
-  was_end : (id : ℕ) (duration exit : ℤ) → SpellsCall (end_call id duration exit) payload → EndOutcome old id duration exit answer new → Outcome old payload used answer new
-  was_search : (mode : SearchMode) (past : List ℕ) (offset limit : ℕ) (hits : List HistoryRecord) → SpellsCall (search_call mode past offset limit) payload → IsAnswer offset limit (ended_in old) hits → answer ≡ hit_list hits → new ≡ old → Outcome old payload used answer new
-  was_short : answer ≡ no_memory → Outcome old payload used answer new
+  was_wrong : (place : ℕ) → WrongAt plain_kinds payload place → answer ≡ plain_bad_request place → new ≡ old → Outcome old payload used answer new
+  was_start : (command cwd session hostname : List ℕ) → SpellsCall (plain_start_call command cwd session hostname) payload → ◌≡◌ {A = PlainAnswer × List JournalEntry} (answer, new) (start_outcome old command cwd session hostname used.readings used.drawn used.faults) → Outcome old payload used answer new
+  was_end : (id : ℕ) (duration exit : ℤ) → SpellsCall (plain_end_call id duration exit) payload → EndOutcome old id duration exit answer new → Outcome old payload used answer new
+  was_search : (mode : SearchMode) (past : List ℕ) (offset limit : ℕ) (hits : List HistoryRecord) → SpellsCall (plain_search_call mode past offset limit) payload → IsAnswer offset limit (ended_in old) hits → answer ≡ plain_hit_list hits → new ≡ old → Outcome old payload used answer new
+  was_short : answer ≡ plain_no_memory → Outcome old payload used answer new
 
 module _ (old : List JournalEntry) (used : Used) (reply : PlainReply) (new : List JournalEntry) where
   refused_answer : (answer : PlainAnswer) → PlainRefuses old new reply answer → reply.answer ≡ answer
@@ -101,7 +101,7 @@ module _ (old : List JournalEntry) (payload : List ℕ) (used : Used) (a b : Pla
   other_call : (call other : PlainCall) → SpellsCall call payload → SpellsCall other payload → (call ≡ other → ⊥) → (a ≡ b) × (x ≡ y)
   other_call call other s t apart = absurd (apart (one_call payload call other s t))
 
-  same_start : (c w s h c' w' s' h' : List ℕ) → start_call c w s h ≡ start_call c' w' s' h' → ◌≡◌ {A = PlainAnswer × List JournalEntry} (a, x) (start_outcome old c w s h used.readings used.drawn used.faults)
+  same_start : (c w s h c' w' s' h' : List ℕ) → plain_start_call c w s h ≡ plain_start_call c' w' s' h' → ◌≡◌ {A = PlainAnswer × List JournalEntry} (a, x) (start_outcome old c w s h used.readings used.drawn used.faults)
       → ◌≡◌ {A = PlainAnswer × List JournalEntry} (b, y) (start_outcome old c' w' s' h' used.readings used.drawn used.faults) → (a ≡ b) × (x ≡ y)
   same_start c w s h c' w' s' h' same p q =
       let c_is : c ≡ c' = cc in
@@ -111,10 +111,10 @@ module _ (old : List JournalEntry) (payload : List ℕ) (used : Used) (a b : Pla
       let both : ◌≡◌ {A = PlainAnswer × List JournalEntry} (a, x) (b, y) = p ∙ rw (c_is, w_is, s_is, h_is) (sym q) in
       (ap (λ (z : PlainAnswer × List JournalEntry). z.0) both, ap (λ (z : PlainAnswer × List JournalEntry). z.1) both)
 
-  pub outcome_one : a ≢ no_memory → b ≢ no_memory → Outcome old payload used a x → Outcome old payload used b y → (a ≡ b) × (x ≡ y)
+  pub outcome_one : a ≢ plain_no_memory → b ≢ plain_no_memory → Outcome old payload used a x → Outcome old payload used b y → (a ≡ b) × (x ≡ y)
   outcome_one a_told b_told (was_short is) o = absurd (a_told is)
   outcome_one a_told b_told (was_wrong place w is kept) (was_short is') = absurd (b_told is')
-  outcome_one a_told b_told (was_wrong place w is kept) (was_wrong place' w' is' kept') = (is ∙ ap (λ (n : ℕ). bad_request n) (one_place plain_kinds most_kinds payload place place' are w w') ∙ sym is', kept ∙ sym kept')
+  outcome_one a_told b_told (was_wrong place w is kept) (was_wrong place' w' is' kept') = (is ∙ ap (λ (n : ℕ). plain_bad_request n) (one_place plain_kinds most_kinds payload place place' are w w') ∙ sym is', kept ∙ sym kept')
   outcome_one a_told b_told (was_wrong place w is kept) (was_start _ _ _ _ s _) = no_such _ place s w
   outcome_one a_told b_told (was_wrong place w is kept) (was_end _ _ _ s _) = no_such _ place s w
   outcome_one a_told b_told (was_wrong place w is kept) (was_search _ _ _ _ _ s _ _ _) = no_such _ place s w
@@ -127,7 +127,7 @@ module _ (old : List JournalEntry) (payload : List ℕ) (used : Used) (a b : Pla
   outcome_one a_told b_told (was_end _ _ _ s p) (was_wrong place w _ _) = no_such _ place s w
   outcome_one a_told b_told (was_end _ _ _ s p) (was_start _ _ _ _ t _) = other_call _ _ s t (λ e. cc)
   outcome_one a_told b_told (was_end id duration exit s p) (was_end id' duration' exit' t q) =
-      let same : end_call id duration exit ≡ end_call id' duration' exit' = one_call payload _ _ s t in
+      let same : plain_end_call id duration exit ≡ plain_end_call id' duration' exit' = one_call payload _ _ s t in
       let id_is : id ≡ id' = cc in
       let duration_is : duration ≡ duration' = cc in
       let exit_is : exit ≡ exit' = cc in
@@ -138,14 +138,14 @@ module _ (old : List JournalEntry) (payload : List ℕ) (used : Used) (a b : Pla
   outcome_one a_told b_told (was_search _ _ _ _ _ s _ _ _) (was_start _ _ _ _ t _) = other_call _ _ s t (λ e. cc)
   outcome_one a_told b_told (was_search _ _ _ _ _ s _ _ _) (was_end _ _ _ t _) = other_call _ _ s t (λ e. cc)
   outcome_one a_told b_told (was_search mode past offset limit hits s found is kept) (was_search mode' past' offset' limit' hits' t found' is' kept') =
-      let same : search_call mode past offset limit ≡ search_call mode' past' offset' limit' = one_call payload _ _ s t in
+      let same : plain_search_call mode past offset limit ≡ plain_search_call mode' past' offset' limit' = one_call payload _ _ s t in
       let offset_is : offset ≡ offset' = cc in
       let limit_is : limit ≡ limit' = cc in
       let one = IsAnswer-one offset limit (ended_in old) hits hits' sound.ended_own found (rw (offset_is, limit_is) found') in
-      (is ∙ ap (λ (hs : List HistoryRecord). hit_list hs) one ∙ sym is', kept ∙ sym kept')
+      (is ∙ ap (λ (hs : List HistoryRecord). plain_hit_list hs) one ∙ sym is', kept ∙ sym kept')
 
 -- a payload has one reply, and leaves one journal
-pub Step-one : (old : List JournalEntry) (payload : List ℕ) (used : Used) (reply other : PlainReply) (new new' : List JournalEntry) → IsBytes payload → SoundJournal old → reply.answer ≢ no_memory → other.answer ≢ no_memory
+pub Step-one : (old : List JournalEntry) (payload : List ℕ) (used : Used) (reply other : PlainReply) (new new' : List JournalEntry) → IsBytes payload → SoundJournal old → reply.answer ≢ plain_no_memory → other.answer ≢ plain_no_memory
     → PlainStep old payload used reply new → PlainStep old payload used other new' → (reply ≡ other) × (new ≡ new')
 Step-one old payload used reply other new new' are sound told told' step step' =
     let one = outcome_one old payload used reply.answer other.answer new new' are sound told told' (Step-outcome old payload used reply new step) (Step-outcome old payload used other new' step') in

@@ -7,9 +7,9 @@ use Rattle.std.proofs.lemmas.Bool.Decides.{nat_tests, Decides-eqb}
 use Rattle.std.proofs.lemmas.List.Sorted.{IsPermutation-sym, IsPermutation-trans, sorted_far}
 use Rattle.std.proofs.lemmas.List.Sums.{sum_by-append}
 use Rattle.std.proofs.lemmas.Slice.Eq.{starts_is}
-use Rattle.definitions.specs.Journal.{HistoryRecord, HaveOwnIds}
+use Rattle.definitions.specs.Journal.{HistoryRecord, HaveDistinctIds}
 use Rattle.definitions.specs.Search.{stands_in, is_shown_before, hit_bytes, FitsPage, IsPage, IsAnswer}
-use Rattle.definitions.proofs.Among.{Contains-from_Among, Among-permutation, HaveOwnIds-permutation, HaveOwnIds-apart, HaveOwnIds-tail, InOrder, one_order}
+use Rattle.definitions.proofs.Among.{Contains-from_Among, Among-permutation, HaveDistinctIds-permutation, HaveDistinctIds-apart, HaveDistinctIds-tail, InOrder, one_order}
 
 -- ---- the order of hits
 
@@ -42,20 +42,20 @@ IsSortedBy-tail h hits up k d low high =
     let there = up (suc k) d (omega arith) (omega arith) in
     rw next at there
 
-pub in_order : (hits : List HistoryRecord) → IsSortedBy is_shown_before hits → HaveOwnIds (λ h. h.id) hits → InOrder HistoryRecord IsShownFirst hits
+pub in_order : (hits : List HistoryRecord) → IsSortedBy is_shown_before hits → HaveDistinctIds (λ h. h.id) hits → InOrder HistoryRecord IsShownFirst hits
 in_order [] up own = tt
 in_order (h ∷ hits) up own = (
   λ other m.
       let c = Contains-from_Among HistoryRecord hits other m in
       let far = sorted_far is_shown_before shown_order (h ∷ hits) up 0 (suc c.0) other (omega arith) (let lt = c.1 in omega arith) in
-      (subst (λ (x : HistoryRecord). is_shown_before x h ≡ false) c.2 far, HaveOwnIds-apart HistoryRecord (λ h. h.id) h hits other own m),
-  in_order hits (IsSortedBy-tail h hits up) (HaveOwnIds-tail HistoryRecord (λ h. h.id) h hits own),
+      (subst (λ (x : HistoryRecord). is_shown_before x h ≡ false) c.2 far, HaveDistinctIds-apart HistoryRecord (λ h. h.id) h hits other own m),
+  in_order hits (IsSortedBy-tail h hits up) (HaveDistinctIds-tail HistoryRecord (λ h. h.id) h hits own),
 )
 
-one_sorted : (all xs ys : List HistoryRecord) → HaveOwnIds (λ h. h.id) all → IsPermutation all xs → IsPermutation all ys → IsSortedBy is_shown_before xs → IsSortedBy is_shown_before ys → xs ≡ ys
+one_sorted : (all xs ys : List HistoryRecord) → HaveDistinctIds (λ h. h.id) all → IsPermutation all xs → IsPermutation all ys → IsSortedBy is_shown_before xs → IsSortedBy is_shown_before ys → xs ≡ ys
 one_sorted all xs ys own p q xs_up ys_up =
     one_order HistoryRecord IsShownFirst IsShownFirst-strict xs ys
-    (in_order xs xs_up (HaveOwnIds-permutation HistoryRecord (λ h. h.id) all xs p own)) (in_order ys ys_up (HaveOwnIds-permutation HistoryRecord (λ h. h.id) all ys q own))
+    (in_order xs xs_up (HaveDistinctIds-permutation HistoryRecord (λ h. h.id) all xs p own)) (in_order ys ys_up (HaveDistinctIds-permutation HistoryRecord (λ h. h.id) all ys q own))
     (λ h m. Among-permutation HistoryRecord xs ys h (IsPermutation-trans xs all ys (IsPermutation-sym all xs p) q) m)
     (λ h m. Among-permutation HistoryRecord ys xs h (IsPermutation-trans ys all xs (IsPermutation-sym all ys q) p) m)
 
@@ -105,7 +105,7 @@ module _ {X : Type 0} (bytes_of : X → ℕ) (limit : ℕ) where
       ]
 
 -- a search has one answer
-pub IsAnswer-one : (offset limit : ℕ) (entries page other : List HistoryRecord) → HaveOwnIds (λ h. h.id) entries → IsAnswer offset limit entries page → IsAnswer offset limit entries other → page ≡ other
+pub IsAnswer-one : (offset limit : ℕ) (entries page other : List HistoryRecord) → HaveDistinctIds (λ h. h.id) entries → IsAnswer offset limit entries page → IsAnswer offset limit entries other → page ≡ other
 IsAnswer-one offset limit entries page other own p q =
     let same = one_sorted entries p.in_order q.in_order own p.all q.all p.sorted q.sorted in
     IsPage-one hit_bytes limit (drop offset q.in_order) page other (subst (λ (hs : List HistoryRecord). IsPage hit_bytes limit (drop offset hs) page) same p.cut) q.cut

@@ -396,7 +396,7 @@ spelled_text_short text spelled s = spelled_text_form_short s.form (length text)
 abbrev pub HasLength : ℕ → ℕ → List ℕ → Type 0
 HasLength least most bytes = (least ≤ length bytes) × (length bytes ≤ most)
 
-integer_form_length : (form : IntegerForm) (z : ℤ) → HasLength 1 9 (integer_bytes form z)
+pub integer_form_length : (form : IntegerForm) (z : ℤ) → HasLength 1 9 (integer_bytes form z)
 integer_form_length positive_fixint z = (omega arith, omega arith)
 integer_form_length negative_fixint z = (omega arith, omega arith)
 integer_form_length uint_8 z = (omega arith, omega arith)
@@ -423,7 +423,7 @@ text_length text spelled s =
     let whole = ap length s.are ∙ length-append (text_head s.form (length text)) text in
     (omega arith, omega arith)
 
-array_form_length : (form : ArrayForm) (n : ℕ) → HasLength 1 5 (array_head form n)
+pub array_form_length : (form : ArrayForm) (n : ℕ) → HasLength 1 5 (array_head form n)
 array_form_length fixarray n = (omega arith, omega arith)
 array_form_length array_16 n = (omega arith, omega arith)
 array_form_length array_32 n = (omega arith, omega arith)

@@ -1,11 +1,11 @@
 -- What every step keeps: the journal is sound and only grows, a refusal leaves it, and the reply's front is its length.
-use Rattle.std.proofs.Common.{◌≡◌, ℕ, ℤ, ◌+◌, false, List, [], ◌∷◌, ◌++◌, length, refl, sym, ap, subst, ◌∙◌, append_assoc, append-nil, arith, inl, inr, true}
+use Rattle.std.proofs.Common.{◌≡◌, ℕ, ℤ, ◌+◌, false, List, [], ◌∷◌, ◌++◌, length, None, refl, sym, ap, subst, ◌∙◌, append_assoc, append-nil, arith, inl, inr, true}
 use Rattle.std.specs.List.{Contains}
-use Rattle.definitions.specs.Journal.{StartedRecord, HistoryRecord, JournalEntry, begun, ended, begun_in, ended_in, was_begun, has_ended, finished, HaveOwnIds, SoundJournal}
+use Rattle.definitions.specs.Journal.{StartedRecord, HistoryRecord, JournalEntry, begun, ended, begun_in, ended_in, was_begun, has_ended, finished, HaveDistinctIds, SoundJournal}
 use Rattle.definitions.specs.Replies.{PlainAnswer, PlainReply, is_plain_refusal}
 use Rattle.definitions.specs.Step.{Used, PlainRefuses, Answers, PlainStep, unread, start_failed, start_taken, start_done, start_short, end_unbegun, end_again, end_done, end_short, searched, search_short}
 use Rattle.definitions.specs.Runs.{Run}
-use Rattle.definitions.proofs.Among.{Among, Among-from_place, Contains-from_Among, Among-append, HaveOwnIds-none, HaveOwnIds-more}
+use Rattle.definitions.proofs.Among.{Among, Among-from_place, Contains-from_Among, Among-append, HaveDistinctIds-none, HaveDistinctIds-more}
 
 -- ---- the two lists of a journal
 
@@ -82,7 +82,7 @@ Run-grows old (payload ∷ payloads) used [] new run = elim run [ ]
 -- ---- soundness
 
 pub SoundJournal-none : SoundJournal []
-SoundJournal-none = record { begun_own = HaveOwnIds-none StartedRecord (λ s. s.id); ended_own = HaveOwnIds-none HistoryRecord (λ h. h.id); ended_begun = λ h c. absurd (let lt = c.1 in omega arith) }
+SoundJournal-none = record { begun_own = HaveDistinctIds-none StartedRecord (λ s. s.id); ended_own = HaveDistinctIds-none HistoryRecord (λ h. h.id); ended_begun = λ h c. absurd (let lt = c.1 in omega arith) }
 
 -- a member of the front of a list is a member of the list
 Contains-front : {X : Type 0} (xs ys : List X) (x : X) → Among x xs → Among x (xs ++ ys)
@@ -95,8 +95,8 @@ SoundJournal-begun journal s sound new =
     let started : begun_in (journal ++ begun s ∷ []) ≡ begun_in journal ++ s ∷ [] = begun_in-append journal (begun s ∷ []) in
     let finished_ones : ended_in (journal ++ begun s ∷ []) ≡ ended_in journal = ended_in-append journal (begun s ∷ []) ∙ append-nil (ended_in journal) in
     record {
-      begun_own = subst (λ (ss : List StartedRecord). HaveOwnIds (λ (s : StartedRecord). s.id) ss) (sym started) (HaveOwnIds-more StartedRecord (λ s. s.id) (begun_in journal) s sound.begun_own new);
-      ended_own = subst (λ (hs : List HistoryRecord). HaveOwnIds (λ (h : HistoryRecord). h.id) hs) (sym finished_ones) sound.ended_own;
+      begun_own = subst (λ (ss : List StartedRecord). HaveDistinctIds (λ (s : StartedRecord). s.id) ss) (sym started) (HaveDistinctIds-more StartedRecord (λ s. s.id) (begun_in journal) s sound.begun_own new);
+      ended_own = subst (λ (hs : List HistoryRecord). HaveDistinctIds (λ (h : HistoryRecord). h.id) hs) (sym finished_ones) sound.ended_own;
       ended_begun = λ h c.
           let before : Contains (ended_in journal) h = subst (λ (hs : List HistoryRecord). Contains hs h) finished_ones c in
           let f = sound.ended_begun h before in
@@ -105,21 +105,21 @@ SoundJournal-begun journal s sound new =
           (f.0, subst (λ (ss : List StartedRecord). Contains ss f.0) (sym started) there, f.2);
     }
 
-SoundJournal-ended : (journal : List JournalEntry) (s : StartedRecord) (duration exit : ℤ) → SoundJournal journal → Contains (begun_in journal) s → has_ended s.id journal ≡ false → SoundJournal (journal ++ ended (finished s duration exit) ∷ [])
+SoundJournal-ended : (journal : List JournalEntry) (s : StartedRecord) (duration exit : ℤ) → SoundJournal journal → Contains (begun_in journal) s → has_ended s.id journal ≡ false → SoundJournal (journal ++ ended (finished s duration exit None) ∷ [])
 SoundJournal-ended journal s duration exit sound started new =
-    let entry = finished s duration exit in
+    let entry = finished s duration exit None in
     let begun_ones : begun_in (journal ++ ended entry ∷ []) ≡ begun_in journal = begun_in-append journal (ended entry ∷ []) ∙ append-nil (begun_in journal) in
     let ended_ones : ended_in (journal ++ ended entry ∷ []) ≡ ended_in journal ++ entry ∷ [] = ended_in-append journal (ended entry ∷ []) in
     record {
-      begun_own = subst (λ (ss : List StartedRecord). HaveOwnIds (λ (s : StartedRecord). s.id) ss) (sym begun_ones) sound.begun_own;
-      ended_own = subst (λ (hs : List HistoryRecord). HaveOwnIds (λ (h : HistoryRecord). h.id) hs) (sym ended_ones) (HaveOwnIds-more HistoryRecord (λ h. h.id) (ended_in journal) entry sound.ended_own new);
+      begun_own = subst (λ (ss : List StartedRecord). HaveDistinctIds (λ (s : StartedRecord). s.id) ss) (sym begun_ones) sound.begun_own;
+      ended_own = subst (λ (hs : List HistoryRecord). HaveDistinctIds (λ (h : HistoryRecord). h.id) hs) (sym ended_ones) (HaveDistinctIds-more HistoryRecord (λ h. h.id) (ended_in journal) entry sound.ended_own new);
       ended_begun = λ h c.
           let now : Contains (ended_in journal ++ entry ∷ []) h = subst (λ (hs : List HistoryRecord). Contains hs h) ended_ones c in
           let m = Among-append HistoryRecord (ended_in journal) (entry ∷ []) h (Among-from_place HistoryRecord (ended_in journal ++ entry ∷ []) h now.0 now.1 now.2) in
-          let found : (t : StartedRecord) × Contains (begun_in journal) t × (h ≡ finished t h.duration h.exit) = elim m [
+          let found : (t : StartedRecord) × Contains (begun_in journal) t × (h ≡ finished t h.duration h.exit None) = elim m [
             | inl before ↦ sound.ended_begun h (Contains-from_Among HistoryRecord (ended_in journal) h before)
             | inr last ↦ elim last [
-              | inl e ↦ (s, started, e ∙ ap (λ (x : HistoryRecord). finished s x.duration x.exit) (sym e))
+              | inl e ↦ (s, started, e ∙ ap (λ (x : HistoryRecord). finished s x.duration x.exit None) (sym e))
               | inr none ↦ absurd none
             ]
           ] in

@@ -98,11 +98,11 @@ pub record SearchQuery : Type 0 where
 
 pub data PlainCall : Type 0 where
   -- command, working directory, session and host name
-  start_call : List ℕ → List ℕ → List ℕ → List ℕ → PlainCall
+  plain_start_call : List ℕ → List ℕ → List ℕ → List ℕ → PlainCall
   -- the id of a running command, its duration in nanoseconds and its exit status
-  end_call : ℕ → ℤ → ℤ → PlainCall
+  plain_end_call : ℕ → ℤ → ℤ → PlainCall
   -- for all: a mode that makes no difference, a filter's text that is read past, the offset and the limit
-  search_call : SearchMode → List ℕ → ℕ → ℕ → PlainCall
+  plain_search_call : SearchMode → List ℕ → ℕ → ℕ → PlainCall
 
 -- the arguments of a Start, an End and a Search; a Search has no filter, no query and no unique hits yet
 abbrev pub start_kinds : List Kind
@@ -123,21 +123,21 @@ mode_number by_prefix = 0
 mode_number by_substring = 1
 
 abbrev pub call_number : PlainCall → ℕ
-call_number (start_call command cwd session hostname) = 1
-call_number (end_call id duration exit) = 2
-call_number (search_call mode past offset limit) = 4
+call_number (plain_start_call command cwd session hostname) = 1
+call_number (plain_end_call id duration exit) = 2
+call_number (plain_search_call mode past offset limit) = 4
 
 abbrev pub arguments : PlainCall → List Argument
-arguments (start_call command cwd session hostname) = a_text command ∷ a_text cwd ∷ a_text session ∷ a_text hostname ∷ []
-arguments (end_call id duration exit) = a_text (id_text id) ∷ an_integer duration ∷ an_integer exit ∷ []
-arguments (search_call mode past offset limit) =
+arguments (plain_start_call command cwd session hostname) = a_text command ∷ a_text cwd ∷ a_text session ∷ a_text hostname ∷ []
+arguments (plain_end_call id duration exit) = a_text (id_text id) ∷ an_integer duration ∷ an_integer exit ∷ []
+arguments (plain_search_call mode past offset limit) =
     an_integer (pos (mode_number mode)) ∷ an_integer (pos 0) ∷ a_text past ∷ a_text [] ∷ an_integer (pos 0) ∷ an_integer (pos offset) ∷ an_integer (pos limit) ∷ []
 
 -- an id has 128 bits
 abbrev pub IdFits : PlainCall → Type 0
-IdFits (start_call command cwd session hostname) = Unit {0}
-IdFits (end_call id duration exit) = id < 2 ^ 128
-IdFits (search_call mode past offset limit) = Unit {0}
+IdFits (plain_start_call command cwd session hostname) = Unit {0}
+IdFits (plain_end_call id duration exit) = id < 2 ^ 128
+IdFits (plain_search_call mode past offset limit) = Unit {0}
 
 -- the payload is the call's number and its arguments
 pub record SpellsCall (call : PlainCall) (payload : List ℕ) : Type 0 where

@@ -1,14 +1,14 @@
 -- The definitions worked out, with values written out by hand from the rule in words. Texts are ASCII where nothing
 -- else
 -- is said, and payloads and replies stand in bytes.
-use Rattle.std.specs.Prelude.{◌≡◌, ℕ, pos, negsuc, List, [], ◌∷◌, ◌++◌, length, map, codes, replicate, true, false, None}
+use Rattle.std.specs.Prelude.{◌≡◌, ℕ, pos, negsuc, List, [], ◌∷◌, ◌++◌, length, map, codes, replicate, true, false, Some, None}
 use Rattle.definitions.specs.Spelling.{IsBytes, SpellsInteger, IsInteger, IsSpellable, written_integer, text_head, SpellsText, IsText, shortest_text, written_text, SpellsArray, IsArray, written_array}
 use Rattle.definitions.specs.Frames.{frame, frames, named_length, NoWholeFrame, CutFrame, LongFrame, whole_stream, cut_stream, long_stream, StreamEnds, CutAfter}
 use Rattle.definitions.specs.Ids.{made_id, id_text}
-use Rattle.definitions.specs.Calls.{by_prefix, by_substring, PlainCall, start_call, end_call, search_call, plain_kinds, SpellsCall, WrongAt}
-use Rattle.definitions.specs.Journal.{StartedRecord, HistoryRecord, JournalEntry, begun, ended, begun_in, ended_in, HaveOwnIds, was_begun, has_ended, finished, SoundJournal, FitsJournal}
+use Rattle.definitions.specs.Calls.{by_prefix, by_substring, PlainCall, plain_start_call, plain_end_call, plain_search_call, plain_kinds, SpellsCall, WrongAt}
+use Rattle.definitions.specs.Journal.{StartedRecord, HistoryRecord, JournalEntry, begun, ended, begun_in, ended_in, HaveDistinctIds, was_begun, has_ended, finished, SoundJournal, FitsJournal}
 use Rattle.definitions.specs.Search.{compared, matches_by, is_shown_before, hit_bytes, FitsPage, IsPage, IsAnswer}
-use Rattle.definitions.specs.Replies.{PlainAnswer, began_id, stored_index, hit_list, unknown_id, random_fault, id_taken, no_memory, bad_request, is_plain_refusal, PlainReply, plain_reply_bytes}
+use Rattle.definitions.specs.Replies.{PlainAnswer, plain_began_id, plain_stored_index, plain_hit_list, plain_unknown_id, plain_random_fault, plain_id_taken, plain_no_memory, plain_bad_request, is_plain_refusal, PlainReply, plain_reply_bytes}
 use Rattle.definitions.specs.Step.{Used, then_used, UsedFits, PlainStep}
 use Rattle.definitions.specs.Runs.{Run, IsSplitRun, random_faults}
 
@@ -170,32 +170,32 @@ abbrev pub ls : StartedRecord
 ls = record { id = first_id; timestamp = first_time; command = codes "ls"; cwd = codes "/"; session = codes "s1"; hostname = codes "h:u" }
 
 abbrev pub start_ls : PlainCall
-start_ls = start_call (codes "ls") (codes "/") (codes "s1") (codes "h:u")
+start_ls = plain_start_call (codes "ls") (codes "/") (codes "s1") (codes "h:u")
 
 abbrev pub start_payload : List ℕ
 start_payload = 0x95 ∷ 0x01 ∷ 0xa2 ∷ 0x6c ∷ 0x73 ∷ 0xa1 ∷ 0x2f ∷ 0xa2 ∷ 0x73 ∷ 0x31 ∷ 0xa3 ∷ 0x68 ∷ 0x3a ∷ 0x75 ∷ []
 
 -- its end after 1,000 ns with status 0
 abbrev pub end_ls : PlainCall
-end_ls = end_call first_id (pos 1000) (pos 0)
+end_ls = plain_end_call first_id (pos 1000) (pos 0)
 
 abbrev pub end_payload : List ℕ
 end_payload = 0x94 ∷ 0x02 ∷ 0xd9 ∷ 0x20 ∷ (first_digits ++ 0xcd ∷ 0x03 ∷ 0xe8 ∷ 0x00 ∷ [])
 
 -- the first ten of all commands
 abbrev pub all_hits : PlainCall
-all_hits = search_call by_prefix [] 0 10
+all_hits = plain_search_call by_prefix [] 0 10
 
 abbrev pub all_payload : List ℕ
 all_payload = 0x98 ∷ 0x04 ∷ 0x00 ∷ 0x00 ∷ 0xa0 ∷ 0xa0 ∷ 0x00 ∷ 0x00 ∷ 0x0a ∷ []
 
 -- the third, with a text of the filter, "x", that is read past
 abbrev pub third_hit : PlainCall
-third_hit = search_call by_substring (codes "x") 2 1
+third_hit = plain_search_call by_substring (codes "x") 2 1
 
 -- a thousand, behind as many as can be left out
 abbrev pub last_hits : PlainCall
-last_hits = search_call by_prefix [] 4294967295 1000
+last_hits = plain_search_call by_prefix [] 4294967295 1000
 
 pub record WorkedCalls : Type 0 where
   pub start : SpellsCall start_ls start_payload
@@ -203,13 +203,13 @@ pub record WorkedCalls : Type 0 where
   pub start_wide : SpellsCall start_ls (0xdc ∷ 0x00 ∷ 0x05 ∷ 0xd0 ∷ 0x01 ∷ 0xd9 ∷ 0x02 ∷ 0x6c ∷ 0x73 ∷ 0xa1 ∷ 0x2f ∷ 0xa2 ∷ 0x73 ∷ 0x31 ∷ 0xa3 ∷ 0x68 ∷ 0x3a ∷ 0x75 ∷ [])
   pub end : SpellsCall end_ls end_payload
   -- a duration of -2^63 and a status of one less than 2^63
-  pub end_far : SpellsCall (end_call first_id (negsuc 9223372036854775807) (pos 9223372036854775807))
+  pub end_far : SpellsCall (plain_end_call first_id (negsuc 9223372036854775807) (pos 9223372036854775807))
       (0x94 ∷ 0x02 ∷ 0xd9 ∷ 0x20 ∷ (first_digits ++ 0xd3 ∷ 0x80 ∷ 0x00 ∷ 0x00 ∷ 0x00 ∷ 0x00 ∷ 0x00 ∷ 0x00 ∷ 0x00 ∷ 0xcf ∷ 0x7f ∷ 0xff ∷ 0xff ∷ 0xff ∷ 0xff ∷ 0xff ∷ 0xff ∷ 0xff ∷ []))
   pub search : SpellsCall all_hits all_payload
   pub search_third : SpellsCall third_hit (0x98 ∷ 0x04 ∷ 0x01 ∷ 0x00 ∷ 0xa1 ∷ 0x78 ∷ 0xa0 ∷ 0x00 ∷ 0x02 ∷ 0x01 ∷ [])
   pub search_last : SpellsCall last_hits (0x98 ∷ 0x04 ∷ 0x00 ∷ 0x00 ∷ 0xa0 ∷ 0xa0 ∷ 0x00 ∷ 0xce ∷ 0xff ∷ 0xff ∷ 0xff ∷ 0xff ∷ 0xcd ∷ 0x03 ∷ 0xe8 ∷ [])
   -- no payload spells an id of 129 bits
-  pub id_above : (payload : List ℕ) → SpellsCall (end_call 340282366920938463463374607431768211456 (pos 0) (pos 0)) payload → ⊥
+  pub id_above : (payload : List ℕ) → SpellsCall (plain_end_call 340282366920938463463374607431768211456 (pos 0) (pos 0)) payload → ⊥
 
 pub record WorkedFaults : Type 0 where
   -- nothing, an array of no items, and one of nine
@@ -254,14 +254,18 @@ pub record WorkedFaults : Type 0 where
 -- ---- journals
 
 abbrev pub ls_ended : HistoryRecord
-ls_ended = record { id = first_id; timestamp = first_time; duration = pos 1000; exit = pos 0; command = codes "ls"; cwd = codes "/"; session = codes "s1"; hostname = codes "h:u"; deleted_at = None }
+ls_ended = record { id = first_id; timestamp = first_time; duration = pos 1000; exit = pos 0; command = codes "ls"; cwd = codes "/"; session = codes "s1"; hostname = codes "h:u"; deleted_at = None; author = None }
+
+-- the same where an author is told
+abbrev pub authored_ls : HistoryRecord
+authored_ls = record ls_ended { author = Some (codes "me") }
 
 -- "pwd" with the id 7, begun at 20 ns
 abbrev pub pwd : StartedRecord
 pwd = record { id = 7; timestamp = 20; command = codes "pwd"; cwd = codes "/"; session = codes "s1"; hostname = codes "h:u" }
 
 abbrev pub pwd_ended : HistoryRecord
-pwd_ended = record { id = 7; timestamp = 20; duration = pos 3; exit = pos 0; command = codes "pwd"; cwd = codes "/"; session = codes "s1"; hostname = codes "h:u"; deleted_at = None }
+pwd_ended = record { id = 7; timestamp = 20; duration = pos 3; exit = pos 0; command = codes "pwd"; cwd = codes "/"; session = codes "s1"; hostname = codes "h:u"; deleted_at = None; author = None }
 
 -- both were begun, and one has ended
 abbrev pub one_running : List JournalEntry
@@ -270,7 +274,7 @@ one_running = begun ls ∷ begun pwd ∷ ended ls_ended ∷ []
 pub record WorkedJournals : Type 0 where
   pub begun_ones : begun_in one_running ≡ ls ∷ pwd ∷ []
   pub ended_ones : ended_in (ended pwd_ended ∷ begun ls ∷ ended ls_ended ∷ []) ≡ pwd_ended ∷ ls_ended ∷ []
-  pub kept : finished ls (pos 1000) (pos 0) ≡ ls_ended
+  pub kept : finished ls (pos 1000) (pos 0) None ≡ ls_ended
   pub ls_was_begun : was_begun first_id one_running ≡ true
   pub pwd_was_begun : was_begun 7 one_running ≡ true
   pub other_was_not : was_begun 8 one_running ≡ false
@@ -278,8 +282,8 @@ pub record WorkedJournals : Type 0 where
   pub ls_is_over : has_ended first_id one_running ≡ true
   pub pwd_runs : has_ended 7 one_running ≡ false
   -- an id twice, one behind the other or further on
-  pub own_ids : HaveOwnIds (λ (s : StartedRecord). s.id) (ls ∷ pwd ∷ [])
-  pub one_id_twice : HaveOwnIds (λ (s : StartedRecord). s.id) (ls ∷ pwd ∷ record pwd { id = first_id } ∷ []) → ⊥
+  pub own_ids : HaveDistinctIds (λ (s : StartedRecord). s.id) (ls ∷ pwd ∷ [])
+  pub one_id_twice : HaveDistinctIds (λ (s : StartedRecord). s.id) (ls ∷ pwd ∷ record pwd { id = first_id } ∷ []) → ⊥
   pub sound : SoundJournal one_running
   -- a command that is begun again, one that ends again, one that ends and was never begun, and ones that end as what
   -- they weren't
@@ -296,7 +300,7 @@ pub record WorkedJournals : Type 0 where
 -- ---- searches
 
 abbrev pub hit_at : (id timestamp : ℕ) (command : List ℕ) → HistoryRecord
-hit_at id timestamp command = record { id = id; timestamp = timestamp; duration = pos 0; exit = pos 0; command = command; cwd = codes "/"; session = codes "s1"; hostname = codes "h:u"; deleted_at = None }
+hit_at id timestamp command = record { id = id; timestamp = timestamp; duration = pos 0; exit = pos 0; command = command; cwd = codes "/"; session = codes "s1"; hostname = codes "h:u"; deleted_at = None; author = None }
 
 -- three, in the order in which they ended
 abbrev pub three_ended : List HistoryRecord
@@ -328,6 +332,8 @@ pub record WorkedMatches : Type 0 where
   pub itself : is_shown_before (hit_at 1 10 []) (hit_at 1 10 []) ≡ false
   -- "ls", "/", "s1" and "h:u"
   pub bytes : hit_bytes ls_ended ≡ 8
+  -- and where it has an author, "me"
+  pub authored_bytes : hit_bytes authored_ls ≡ 10
 
 pub record WorkedSearches : Type 0 where
   -- two of three where the limit is 2: not one, nor three
@@ -350,21 +356,24 @@ pub record WorkedSearches : Type 0 where
 -- ---- replies
 
 pub record WorkedReplies : Type 0 where
-  pub of_start : plain_reply_bytes (record { front = 1; answer = began_id first_id }) ≡ 0x93 ∷ 0x00 ∷ 0x01 ∷ 0xd9 ∷ 0x20 ∷ first_digits
-  pub of_end : plain_reply_bytes (record { front = 2; answer = stored_index 0 }) ≡ 0x93 ∷ 0x00 ∷ 0x02 ∷ 0x00 ∷ []
+  pub of_start : plain_reply_bytes (record { front = 1; answer = plain_began_id first_id }) ≡ 0x93 ∷ 0x00 ∷ 0x01 ∷ 0xd9 ∷ 0x20 ∷ first_digits
+  pub of_end : plain_reply_bytes (record { front = 2; answer = plain_stored_index 0 }) ≡ 0x93 ∷ 0x00 ∷ 0x02 ∷ 0x00 ∷ []
   -- a front and an index that don't fit one byte
-  pub of_later_end : plain_reply_bytes (record { front = 300; answer = stored_index 128 }) ≡ 0x93 ∷ 0x00 ∷ 0xcd ∷ 0x01 ∷ 0x2c ∷ 0xcc ∷ 0x80 ∷ []
-  pub of_search : plain_reply_bytes (record { front = 2; answer = hit_list (ls_ended ∷ pwd_ended ∷ []) })
+  pub of_later_end : plain_reply_bytes (record { front = 300; answer = plain_stored_index 128 }) ≡ 0x93 ∷ 0x00 ∷ 0xcd ∷ 0x01 ∷ 0x2c ∷ 0xcc ∷ 0x80 ∷ []
+  pub of_search : plain_reply_bytes (record { front = 2; answer = plain_hit_list (ls_ended ∷ pwd_ended ∷ []) })
       ≡ 0x93 ∷ 0x00 ∷ 0x02 ∷ 0x92 ∷ 0x98 ∷ 0xd9 ∷ 0x20 ∷ (first_digits ++ 0xcf ∷ 0x17 ∷ 0x97 ∷ 0x9c ∷ 0xfe ∷ 0x36 ∷ 0x2a ∷ 0x00 ∷ 0x00 ∷ 0xcd ∷ 0x03 ∷ 0xe8 ∷ 0x00 ∷ 0xa2 ∷ 0x6c ∷ 0x73 ∷ 0xa1 ∷ 0x2f ∷ 0xa2 ∷ 0x73 ∷ 0x31 ∷ 0xa3 ∷ 0x68 ∷ 0x3a ∷ 0x75
       ∷ 0x98 ∷ 0xd9 ∷ 0x20 ∷ (codes "00000000000000000000000000000007" ++ 0x14 ∷ 0x03 ∷ 0x00 ∷ 0xa3 ∷ 0x70 ∷ 0x77 ∷ 0x64 ∷ 0xa1 ∷ 0x2f ∷ 0xa2 ∷ 0x73 ∷ 0x31 ∷ 0xa3 ∷ 0x68 ∷ 0x3a ∷ 0x75 ∷ []))
-  pub of_no_hits : plain_reply_bytes (record { front = 0; answer = hit_list [] }) ≡ 0x93 ∷ 0x00 ∷ 0x00 ∷ 0x90 ∷ []
-  pub of_unknown_id : plain_reply_bytes (record { front = 3; answer = unknown_id first_id }) ≡ 0x93 ∷ 0x02 ∷ 0x03 ∷ 0xd9 ∷ 0x20 ∷ first_digits
-  pub of_random_fault : plain_reply_bytes (record { front = 3; answer = random_fault }) ≡ 0x92 ∷ 0x05 ∷ 0x03 ∷ []
-  pub of_taken_id : plain_reply_bytes (record { front = 3; answer = id_taken first_id }) ≡ 0x93 ∷ 0x06 ∷ 0x03 ∷ 0xd9 ∷ 0x20 ∷ first_digits
-  pub of_no_memory : plain_reply_bytes (record { front = 3; answer = no_memory }) ≡ 0x92 ∷ 0x08 ∷ 0x03 ∷ []
-  pub of_bad_request : plain_reply_bytes (record { front = 3; answer = bad_request 1 }) ≡ 0x93 ∷ 0x09 ∷ 0x03 ∷ 0x01 ∷ []
-  pub refusals : map is_plain_refusal (unknown_id 1 ∷ random_fault ∷ id_taken 1 ∷ no_memory ∷ bad_request 1 ∷ []) ≡ true ∷ true ∷ true ∷ true ∷ true ∷ []
-  pub no_refusals : map is_plain_refusal (began_id 1 ∷ stored_index 1 ∷ hit_list [] ∷ []) ≡ false ∷ false ∷ false ∷ []
+  -- a hit that has an author, who comes last: nine items
+  pub of_authored : plain_reply_bytes (record { front = 2; answer = plain_hit_list (authored_ls ∷ []) })
+      ≡ 0x93 ∷ 0x00 ∷ 0x02 ∷ 0x91 ∷ 0x99 ∷ 0xd9 ∷ 0x20 ∷ (first_digits ++ 0xcf ∷ 0x17 ∷ 0x97 ∷ 0x9c ∷ 0xfe ∷ 0x36 ∷ 0x2a ∷ 0x00 ∷ 0x00 ∷ 0xcd ∷ 0x03 ∷ 0xe8 ∷ 0x00 ∷ 0xa2 ∷ 0x6c ∷ 0x73 ∷ 0xa1 ∷ 0x2f ∷ 0xa2 ∷ 0x73 ∷ 0x31 ∷ 0xa3 ∷ 0x68 ∷ 0x3a ∷ 0x75 ∷ 0xa2 ∷ 0x6d ∷ 0x65 ∷ [])
+  pub of_no_hits : plain_reply_bytes (record { front = 0; answer = plain_hit_list [] }) ≡ 0x93 ∷ 0x00 ∷ 0x00 ∷ 0x90 ∷ []
+  pub of_unknown_id : plain_reply_bytes (record { front = 3; answer = plain_unknown_id first_id }) ≡ 0x93 ∷ 0x02 ∷ 0x03 ∷ 0xd9 ∷ 0x20 ∷ first_digits
+  pub of_random_fault : plain_reply_bytes (record { front = 3; answer = plain_random_fault }) ≡ 0x92 ∷ 0x05 ∷ 0x03 ∷ []
+  pub of_taken_id : plain_reply_bytes (record { front = 3; answer = plain_id_taken first_id }) ≡ 0x93 ∷ 0x06 ∷ 0x03 ∷ 0xd9 ∷ 0x20 ∷ first_digits
+  pub of_no_memory : plain_reply_bytes (record { front = 3; answer = plain_no_memory }) ≡ 0x92 ∷ 0x08 ∷ 0x03 ∷ []
+  pub of_bad_request : plain_reply_bytes (record { front = 3; answer = plain_bad_request 1 }) ≡ 0x93 ∷ 0x09 ∷ 0x03 ∷ 0x01 ∷ []
+  pub refusals : map is_plain_refusal (plain_unknown_id 1 ∷ plain_random_fault ∷ plain_id_taken 1 ∷ plain_no_memory ∷ plain_bad_request 1 ∷ []) ≡ true ∷ true ∷ true ∷ true ∷ true ∷ []
+  pub no_refusals : map is_plain_refusal (plain_began_id 1 ∷ plain_stored_index 1 ∷ plain_hit_list [] ∷ []) ≡ false ∷ false ∷ false ∷ []
 
 -- ---- steps and runs
 
@@ -382,38 +391,38 @@ nothing_used = record { readings = []; drawn = []; faults = 0 }
 
 pub record WorkedSteps : Type 0 where
   -- a Start at the empty journal, and the same at a journal with its id
-  pub begins : PlainStep [] start_payload used_by_start (at_front 1 (began_id first_id)) (begun ls ∷ [])
-  pub begins_again : PlainStep (begun ls ∷ []) start_payload used_by_start (at_front 1 (id_taken first_id)) (begun ls ∷ [])
-  pub begins_without_random : PlainStep (begun pwd ∷ []) start_payload (record { readings = first_time ∷ []; drawn = []; faults = 1 }) (at_front 1 random_fault) (begun pwd ∷ [])
-  pub begins_without_memory : PlainStep (begun pwd ∷ []) start_payload used_by_start (at_front 1 no_memory) (begun pwd ∷ [])
+  pub begins : PlainStep [] start_payload used_by_start (at_front 1 (plain_began_id first_id)) (begun ls ∷ [])
+  pub begins_again : PlainStep (begun ls ∷ []) start_payload used_by_start (at_front 1 (plain_id_taken first_id)) (begun ls ∷ [])
+  pub begins_without_random : PlainStep (begun pwd ∷ []) start_payload (record { readings = first_time ∷ []; drawn = []; faults = 1 }) (at_front 1 plain_random_fault) (begun pwd ∷ [])
+  pub begins_without_memory : PlainStep (begun pwd ∷ []) start_payload used_by_start (at_front 1 plain_no_memory) (begun pwd ∷ [])
   -- an End: the first and the second one that is stored, of a command that was never begun, and of one that has ended
-  pub ends : PlainStep (begun ls ∷ []) end_payload used_by_end (at_front 2 (stored_index 0)) (begun ls ∷ ended ls_ended ∷ [])
-  pub ends_second : PlainStep (begun pwd ∷ ended pwd_ended ∷ begun ls ∷ []) end_payload used_by_end (at_front 4 (stored_index 1)) (begun pwd ∷ ended pwd_ended ∷ begun ls ∷ ended ls_ended ∷ [])
-  pub ends_unbegun : PlainStep (begun pwd ∷ []) end_payload used_by_end (at_front 1 (unknown_id first_id)) (begun pwd ∷ [])
-  pub ends_again : PlainStep (begun ls ∷ ended ls_ended ∷ []) end_payload used_by_end (at_front 2 (unknown_id first_id)) (begun ls ∷ ended ls_ended ∷ [])
-  pub ends_without_memory : PlainStep (begun ls ∷ []) end_payload used_by_end (at_front 1 no_memory) (begun ls ∷ [])
+  pub ends : PlainStep (begun ls ∷ []) end_payload used_by_end (at_front 2 (plain_stored_index 0)) (begun ls ∷ ended ls_ended ∷ [])
+  pub ends_second : PlainStep (begun pwd ∷ ended pwd_ended ∷ begun ls ∷ []) end_payload used_by_end (at_front 4 (plain_stored_index 1)) (begun pwd ∷ ended pwd_ended ∷ begun ls ∷ ended ls_ended ∷ [])
+  pub ends_unbegun : PlainStep (begun pwd ∷ []) end_payload used_by_end (at_front 1 (plain_unknown_id first_id)) (begun pwd ∷ [])
+  pub ends_again : PlainStep (begun ls ∷ ended ls_ended ∷ []) end_payload used_by_end (at_front 2 (plain_unknown_id first_id)) (begun ls ∷ ended ls_ended ∷ [])
+  pub ends_without_memory : PlainStep (begun ls ∷ []) end_payload used_by_end (at_front 1 plain_no_memory) (begun ls ∷ [])
   -- a Search shows what has ended, and uses nothing
-  pub searches : PlainStep one_running all_payload nothing_used (at_front 3 (hit_list (ls_ended ∷ []))) one_running
-  pub searches_without_memory : PlainStep one_running all_payload nothing_used (at_front 3 no_memory) one_running
-  pub no_call : PlainStep (begun ls ∷ []) (0x91 ∷ 0x63 ∷ []) nothing_used (at_front 1 (bad_request 1)) (begun ls ∷ [])
+  pub searches : PlainStep one_running all_payload nothing_used (at_front 3 (plain_hit_list (ls_ended ∷ []))) one_running
+  pub searches_without_memory : PlainStep one_running all_payload nothing_used (at_front 3 plain_no_memory) one_running
+  pub no_call : PlainStep (begun ls ∷ []) (0x91 ∷ 0x63 ∷ []) nothing_used (at_front 1 (plain_bad_request 1)) (begun ls ∷ [])
 
 pub record WorkedWants : Type 0 where
   -- want of memory is told only where the call would have been done: not of an id that is taken, never begun, or ended
-  pub of_taken : (new : List JournalEntry) → PlainStep (begun ls ∷ []) start_payload used_by_start (at_front 1 no_memory) new → ⊥
-  pub of_unbegun : (new : List JournalEntry) → PlainStep (begun pwd ∷ []) end_payload used_by_end (at_front 1 no_memory) new → ⊥
-  pub of_ended : (new : List JournalEntry) → PlainStep (begun ls ∷ ended ls_ended ∷ []) end_payload used_by_end (at_front 2 no_memory) new → ⊥
+  pub of_taken : (new : List JournalEntry) → PlainStep (begun ls ∷ []) start_payload used_by_start (at_front 1 plain_no_memory) new → ⊥
+  pub of_unbegun : (new : List JournalEntry) → PlainStep (begun pwd ∷ []) end_payload used_by_end (at_front 1 plain_no_memory) new → ⊥
+  pub of_ended : (new : List JournalEntry) → PlainStep (begun ls ∷ ended ls_ended ∷ []) end_payload used_by_end (at_front 2 plain_no_memory) new → ⊥
   -- and with the same use of the outside as else: a Start and an End read the clock, and a Search uses nothing
-  pub start_unread : (new : List JournalEntry) → PlainStep [] start_payload nothing_used (at_front 0 no_memory) new → ⊥
-  pub end_unread : (new : List JournalEntry) → PlainStep (begun ls ∷ []) end_payload nothing_used (at_front 1 no_memory) new → ⊥
-  pub search_read : (new : List JournalEntry) → PlainStep [] all_payload used_by_end (at_front 0 no_memory) new → ⊥
+  pub start_unread : (new : List JournalEntry) → PlainStep [] start_payload nothing_used (at_front 0 plain_no_memory) new → ⊥
+  pub end_unread : (new : List JournalEntry) → PlainStep (begun ls ∷ []) end_payload nothing_used (at_front 1 plain_no_memory) new → ⊥
+  pub search_read : (new : List JournalEntry) → PlainStep [] all_payload used_by_end (at_front 0 plain_no_memory) new → ⊥
   -- the journal stays
-  pub stays : (new : List JournalEntry) → PlainStep [] all_payload nothing_used (at_front 0 no_memory) new → new ≡ []
+  pub stays : (new : List JournalEntry) → PlainStep [] all_payload nothing_used (at_front 0 plain_no_memory) new → new ≡ []
   -- a Start of nine bytes is answered in no way
   pub nine_bytes : (reply : PlainReply) (new : List JournalEntry) → PlainStep [] start_payload (record { readings = first_time ∷ []; drawn = replicate 9 0; faults = 0 }) reply new → ⊥
 
 -- the command is begun, ended and searched for
 abbrev pub three_replies : List PlainReply
-three_replies = at_front 1 (began_id first_id) ∷ at_front 2 (stored_index 0) ∷ at_front 2 (hit_list (ls_ended ∷ [])) ∷ []
+three_replies = at_front 1 (plain_began_id first_id) ∷ at_front 2 (plain_stored_index 0) ∷ at_front 2 (plain_hit_list (ls_ended ∷ [])) ∷ []
 
 abbrev pub used_by_three : Used
 used_by_three = record { readings = first_time ∷ 5 ∷ []; drawn = ten_bytes; faults = 0 }
@@ -436,4 +445,4 @@ pub record WorkedRuns : Type 0 where
   pub fits : UsedFits (record { readings = 18446744073709551615 ∷ []; drawn = 255 ∷ []; faults = 0 })
   pub time_above : UsedFits (record { readings = 18446744073709551616 ∷ []; drawn = []; faults = 0 }) → ⊥
   pub no_byte : UsedFits (record { readings = []; drawn = 256 ∷ []; faults = 0 }) → ⊥
-  pub faults : random_faults (at_front 0 random_fault ∷ at_front 0 no_memory ∷ at_front 0 (began_id 1) ∷ at_front 0 (stored_index 1) ∷ at_front 0 (hit_list []) ∷ at_front 0 (unknown_id 1) ∷ at_front 0 (id_taken 1) ∷ at_front 0 (bad_request 1) ∷ at_front 0 random_fault ∷ []) ≡ 2
+  pub faults : random_faults (at_front 0 plain_random_fault ∷ at_front 0 plain_no_memory ∷ at_front 0 (plain_began_id 1) ∷ at_front 0 (plain_stored_index 1) ∷ at_front 0 (plain_hit_list []) ∷ at_front 0 (plain_unknown_id 1) ∷ at_front 0 (plain_id_taken 1) ∷ at_front 0 (plain_bad_request 1) ∷ at_front 0 plain_random_fault ∷ []) ≡ 2

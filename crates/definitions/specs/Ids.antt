@@ -1,5 +1,5 @@
--- Ids of running and finished commands: RFC 9562, 5.7, UUID version 7, and their 32 lower-case hexadecimal digits.
-use Rattle.std.specs.Prelude.{ℕ, zero, suc, ◌/◌, ◌%◌, ◌^◌, List, [], ◌∷◌, ◌++◌, drop, slice_index, bit_and, bit_or}
+-- Ids of commands, records and hosts: RFC 9562, 5.7, UUID version 7, and how they print.
+use Rattle.std.specs.Prelude.{ℕ, zero, suc, ◌/◌, ◌%◌, ◌^◌, List, [], ◌∷◌, ◌++◌, take, drop, slice_index, bit_and, bit_or}
 use Rattle.std.specs.Int.{w64, w128, to_be_bytes, from_be_bytes}
 use Rattle.std.specs.Char.{digit_char}
 
@@ -19,6 +19,10 @@ abbrev pub hex_digits : ℕ → ℕ → List ℕ
 hex_digits zero id = []
 hex_digits (suc n) id = hex_digits n (id / 16) ++ digit_char (id % 16) ∷ []
 
--- how an id prints
+-- how the id of a command prints
 unfoldable pub id_text : ℕ → List ℕ
 id_text id = hex_digits 32 id
+
+-- how the id of a record or a host prints (RFC 9562, 4): groups of 8, 4, 4, 4 and 12 digits, a hyphen between them
+abbrev pub hyphenated : ℕ → List ℕ
+hyphenated id = take 8 (id_text id) ++ 45 ∷ (take 4 (drop 8 (id_text id)) ++ 45 ∷ (take 4 (drop 12 (id_text id)) ++ 45 ∷ (take 4 (drop 16 (id_text id)) ++ 45 ∷ drop 20 (id_text id))))

@@ -22,6 +22,8 @@ pub record HistoryRecord : Type 0 where
   pub session : List ℕ
   pub hostname : List ℕ
   pub deleted_at : Option ℕ
+  -- whoever ran it, where that is told
+  pub author : Option (List ℕ)
 
 pub data JournalEntry : Type 0 where
   begun : StartedRecord → JournalEntry
@@ -38,8 +40,8 @@ ended_in (begun s ∷ entries) = ended_in entries
 ended_in (ended h ∷ entries) = h ∷ ended_in entries
 
 -- no two of them have one id
-abbrev pub HaveOwnIds : {X : Type 0} → (X → ℕ) → List X → Type 0
-HaveOwnIds id_of xs = IsDistinct (λ a b. id_of a == id_of b) xs
+abbrev pub HaveDistinctIds : {X : Type 0} → (X → ℕ) → List X → Type 0
+HaveDistinctIds id_of xs = IsDistinct (λ a b. id_of a == id_of b) xs
 
 -- some command with this id was begun, or has ended
 abbrev pub was_begun : ℕ → List JournalEntry → Bool
@@ -48,16 +50,17 @@ was_begun id entries = list_any (λ (s : StartedRecord). s.id == id) (begun_in e
 abbrev pub has_ended : ℕ → List JournalEntry → Bool
 has_ended id entries = list_any (λ (h : HistoryRecord). h.id == id) (ended_in entries)
 
--- what is kept of a command when it ends
-abbrev pub finished : StartedRecord → ℤ → ℤ → HistoryRecord
-finished s duration exit =
-    record { id = s.id; timestamp = s.timestamp; duration = duration; exit = exit; command = s.command; cwd = s.cwd; session = s.session; hostname = s.hostname; deleted_at = None }
+-- what is kept of a command when it ends: its duration, its exit status and its author beside what its start told
+abbrev pub finished : StartedRecord → ℤ → ℤ → Option (List ℕ) → HistoryRecord
+finished s duration exit author =
+    record { id = s.id; timestamp = s.timestamp; duration = duration; exit = exit; command = s.command; cwd = s.cwd; session = s.session; hostname = s.hostname; deleted_at = None; author = author }
 
--- A journal that calls have made: no id is begun twice or ends twice, and what ended is what was begun.
+-- A journal that calls have made: no id is begun twice or ends twice, and what ended is what was begun. No plain call
+-- tells an author.
 pub record SoundJournal (journal : List JournalEntry) : Type 0 where
-  pub begun_own : HaveOwnIds (λ (s : StartedRecord). s.id) (begun_in journal)
-  pub ended_own : HaveOwnIds (λ (h : HistoryRecord). h.id) (ended_in journal)
-  pub ended_begun : (h : HistoryRecord) → Contains (ended_in journal) h → (s : StartedRecord) × Contains (begun_in journal) s × (h ≡ finished s h.duration h.exit)
+  pub begun_own : HaveDistinctIds (λ (s : StartedRecord). s.id) (begun_in journal)
+  pub ended_own : HaveDistinctIds (λ (h : HistoryRecord). h.id) (ended_in journal)
+  pub ended_begun : (h : HistoryRecord) → Contains (ended_in journal) h → (s : StartedRecord) × Contains (begun_in journal) s × (h ≡ finished s h.duration h.exit None)
 
 -- ids of 128 bits, and times of 64
 abbrev pub FitsJournal : List JournalEntry → Type 0

@@ -9,3 +9,5 @@ pub mod Step
 pub mod Runs
 pub mod Reading
 pub mod Examples
+pub mod Counts
+pub mod Prefixes

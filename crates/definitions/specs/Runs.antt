@@ -2,7 +2,7 @@
 use Rattle.std.specs.Prelude.{◌≡◌, ℕ, List, [], ◌∷◌, ◌++◌, Bool, true, false}
 use Rattle.std.specs.List.{count_by}
 use Rattle.definitions.specs.Journal.{JournalEntry}
-use Rattle.definitions.specs.Replies.{PlainAnswer, began_id, stored_index, hit_list, unknown_id, random_fault, id_taken, no_memory, bad_request, PlainReply}
+use Rattle.definitions.specs.Replies.{PlainAnswer, plain_began_id, plain_stored_index, plain_hit_list, plain_unknown_id, plain_random_fault, plain_id_taken, plain_no_memory, plain_bad_request, PlainReply}
 use Rattle.definitions.specs.Step.{Used, used_nothing, then_used, PlainStep}
 
 -- From the old journal the payloads get these replies, in order, and leave the new journal.
@@ -25,14 +25,14 @@ pub record IsSplitRun (old : List JournalEntry) (payloads more : List (List ℕ)
   pub replies_are : replies ≡ replies_first ++ replies_second
 
 abbrev pub is_random_fault : PlainAnswer → Bool
-is_random_fault (began_id id) = false
-is_random_fault (stored_index index) = false
-is_random_fault (hit_list hits) = false
-is_random_fault (unknown_id id) = false
-is_random_fault random_fault = true
-is_random_fault (id_taken id) = false
-is_random_fault no_memory = false
-is_random_fault (bad_request place) = false
+is_random_fault (plain_began_id id) = false
+is_random_fault (plain_stored_index index) = false
+is_random_fault (plain_hit_list hits) = false
+is_random_fault (plain_unknown_id id) = false
+is_random_fault plain_random_fault = true
+is_random_fault (plain_id_taken id) = false
+is_random_fault plain_no_memory = false
+is_random_fault (plain_bad_request place) = false
 
 -- how many of the replies say that random bytes were not to be had
 abbrev pub random_faults : List PlainReply → ℕ

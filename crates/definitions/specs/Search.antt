@@ -1,5 +1,5 @@
 -- Search: what it is for a query to match, in which order commands are shown, and how many of them.
-use Rattle.std.specs.Prelude.{◌≡◌, ℕ, ◌+◌, ◌≤◌, List, [], ◌∷◌, ◌++◌, map, length, drop, Bool, ◌&&◌, ◌||◌, cond, eqb, nat_lt, ◌==◌, ◌⊎◌}
+use Rattle.std.specs.Prelude.{◌≡◌, ℕ, ◌+◌, ◌≤◌, List, [], ◌∷◌, ◌++◌, map, length, drop, Option, Some, None, Bool, ◌&&◌, ◌||◌, cond, eqb, nat_lt, ◌==◌, ◌⊎◌}
 use Rattle.std.specs.List.{list_any, starts_with, sum_by}
 use Rattle.std.specs.List.Sorted.{IsPermutation, IsSortedBy}
 use Rattle.std.specs.Char.{is_ascii_uppercase, to_ascii_lowercase}
@@ -27,8 +27,13 @@ matches_by by_substring query command = stands_in query (compared query command)
 abbrev pub is_shown_before : HistoryRecord → HistoryRecord → Bool
 is_shown_before a b = nat_lt b.timestamp a.timestamp || (a.timestamp == b.timestamp) && nat_lt a.id b.id
 
+abbrev pub author_length : Option (List ℕ) → ℕ
+author_length None = 0
+author_length (Some author) = length author
+
+-- the bytes of a command's texts: command, working directory, session, host name and, where there is one, author
 abbrev pub hit_bytes : HistoryRecord → ℕ
-hit_bytes h = length h.command + length h.cwd + length h.session + length h.hostname
+hit_bytes h = length h.command + length h.cwd + length h.session + length h.hostname + author_length h.author
 
 -- items that one reply may show: at most so many, and, where there are several, so light together
 abbrev pub FitsPage : {X : Type 0} → (X → ℕ) → ℕ → List X → Type 0

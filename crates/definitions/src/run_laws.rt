@@ -3,8 +3,8 @@
 ghost use Rattle.std.specs.Prelude.{◌≡◌, ◌≢◌, ℕ, List, [], ◌++◌, length, true};
 ghost use Rattle.std.specs.List.{All};
 ghost use Rattle.definitions.specs.Spelling.{IsBytes};
-ghost use Rattle.definitions.specs.Journal.{HistoryRecord, JournalEntry, HaveOwnIds, FitsJournal, SoundJournal};
-ghost use Rattle.definitions.specs.Replies.{PlainReply, no_memory, is_plain_refusal};
+ghost use Rattle.definitions.specs.Journal.{HistoryRecord, JournalEntry, HaveDistinctIds, FitsJournal, SoundJournal};
+ghost use Rattle.definitions.specs.Replies.{PlainReply, plain_no_memory, is_plain_refusal};
 ghost use Rattle.definitions.specs.Search.{IsAnswer};
 ghost use Rattle.definitions.specs.Step.{Used, UsedFits, then_used, PlainStep};
 ghost use Rattle.definitions.specs.Runs.{Run, IsSplitRun, random_faults};
@@ -25,7 +25,7 @@ pub fn a_run_answers_each_payload()
 /// At a sound journal a payload has one reply and leaves one journal, given what was read of the clock and drawn, unless it
 /// is answered by want of memory.
 pub fn a_step_has_one_outcome()
-    ensures { (old : List JournalEntry) (payload : List ℕ) (used : Used) (a b : PlainReply) (x y : List JournalEntry) → IsBytes payload → SoundJournal old → a.answer ≢ no_memory → b.answer ≢ no_memory → PlainStep old payload used a x → PlainStep old payload used b y → (a ≡ b) × (x ≡ y) }
+    ensures { (old : List JournalEntry) (payload : List ℕ) (used : Used) (a b : PlainReply) (x y : List JournalEntry) → IsBytes payload → SoundJournal old → a.answer ≢ plain_no_memory → b.answer ≢ plain_no_memory → PlainStep old payload used a x → PlainStep old payload used b y → (a ≡ b) × (x ≡ y) }
 {}
 
 /// The journal that a run leaves is determined by the one that it found, the payloads, the replies, and what was read of
@@ -49,5 +49,5 @@ pub fn a_run_leaves_a_sound_journal()
 
 /// Over commands with ids of their own a search has at most one answer.
 pub fn a_search_has_one_answer()
-    ensures { (offset limit : ℕ) (entries page other : List HistoryRecord) → HaveOwnIds (λ (h : HistoryRecord). h.id) entries → IsAnswer offset limit entries page → IsAnswer offset limit entries other → page ≡ other }
+    ensures { (offset limit : ℕ) (entries page other : List HistoryRecord) → HaveDistinctIds (λ (h : HistoryRecord). h.id) entries → IsAnswer offset limit entries page → IsAnswer offset limit entries other → page ≡ other }
 {}

@@ -5,7 +5,7 @@ use Rattle.std.proofs.lemmas.List.{length-take, length-drop, get_or_append_left,
 use Rattle.std.proofs.lemmas.Bool.{cases_lt}
 use Rattle.std.proofs.lemmas.Bool.Decides.{nat_tests}
 use Rattle.disk_rules.specs.Disk.{Range, Disk, IsWithin, KeepsSynced, LeftBy, Leaves, LeavesOnly, IsDisk}
-use Rattle.disk_rules.specs.Calls.{DiskCall, Write, Sync, overwritten, Torn, Wrote, MayCall, Done, Broken}
+use Rattle.disk_rules.specs.Calls.{DiskCall, Write, Sync, overwritten, Torn, Wrote, MayCall, Done, FailedOrUnderWay}
 
 -- ---- what is shown
 
@@ -21,7 +21,7 @@ shows_is_left disk is = by_ranges disk.synced disk.written disk.shows is.keeps
 pub sync_leaves_shown : (old new : Disk) → Done Sync old new → (new.shows ≡ old.shows) × LeavesOnly new old.shows
 sync_leaves_shown old new done = (ap (λ (d : Disk). d.shows) done, λ left is_left. subst (λ (d : Disk). Leaves d left) done is_left)
 
-pub failed_sync_leaves_all : (old new : Disk) (bytes : List ℕ) → Broken Sync old new → (new.shows ≡ old.shows) × (Leaves new bytes → Leaves old bytes) × (Leaves old bytes → Leaves new bytes)
+pub failed_sync_leaves_all : (old new : Disk) (bytes : List ℕ) → FailedOrUnderWay Sync old new → (new.shows ≡ old.shows) × (Leaves new bytes → Leaves old bytes) × (Leaves old bytes → Leaves new bytes)
 failed_sync_leaves_all old new bytes same = (
   ap (λ (d : Disk). d.shows) same,
   λ left. subst (λ (d : Disk). Leaves d bytes) same left,
@@ -36,10 +36,10 @@ overwritten_torn shows at bytes within = record {
   no_shorter = omega (arith, long);
   no_longer = omega (arith, long);
   elsewhere = λ offset below outside. elim (cases_lt offset at) [
-    | inl before ↦ get_or_append_left (take at shows ++ bytes) (drop (at + length bytes) shows) 0 offset (omega (arith, front)) ∙ get_or_append_left (take at shows) bytes 0 offset (omega (arith, taken)) ∙ get_or-take at shows offset 0 before
+    | inl before ↦ get_or_append_left (take at shows ++ bytes) (drop (at + length bytes) shows) 0 offset (omega (arith, begun)) ∙ get_or_append_left (take at shows) bytes 0 offset (omega (arith, taken)) ∙ get_or-take at shows offset 0 before
     | inr behind ↦ elim (cases_lt offset (at + length bytes)) [
       | inl inside ↦ absurd (outside (behind, inside))
-      | inr past ↦ get_or-append_right (take at shows ++ bytes) (drop (at + length bytes) shows) (at + length bytes) offset 0 front past ∙ get_or-drop (at + length bytes) shows (offset - (at + length bytes)) 0 ∙ ap (λ (k : ℕ). get_or shows k 0) (omega arith)
+      | inr past ↦ get_or-append_right (take at shows ++ bytes) (drop (at + length bytes) shows) (at + length bytes) offset 0 begun past ∙ get_or-drop (at + length bytes) shows (offset - (at + length bytes)) 0 ∙ ap (λ (k : ℕ). get_or shows k 0) (omega arith)
     ]
   ];
 }
@@ -47,15 +47,15 @@ overwritten_torn shows at bytes within = record {
     taken : length (take at shows) ≡ at
     taken = omega (arith, length-take at shows)
 
-    front : length (take at shows ++ bytes) ≡ at + length bytes
-    front = omega (arith, taken, length-append (take at shows) bytes)
+    begun : length (take at shows ++ bytes) ≡ at + length bytes
+    begun = omega (arith, taken, length-append (take at shows) bytes)
 
     long : length (overwritten shows at bytes) ≡ at + length bytes + (length shows - (at + length bytes))
-    long = omega (arith, front, length-append (take at shows ++ bytes) (drop (at + length bytes) shows), length-drop (at + length bytes) shows)
+    long = omega (arith, begun, length-append (take at shows ++ bytes) (drop (at + length bytes) shows), length-drop (at + length bytes) shows)
 
-pub wrote : (at : ℕ) (bytes : List ℕ) (old new : Disk) → MayCall (Write at bytes) old → Done (Write at bytes) old new ⊎ Broken (Write at bytes) old new → Wrote (record { at = at; count = length bytes }) old new
+pub wrote : (at : ℕ) (bytes : List ℕ) (old new : Disk) → MayCall (Write at bytes) old → Done (Write at bytes) old new ⊎ Wrote (record { at = at; count = length bytes }) old new → Wrote (record { at = at; count = length bytes }) old new
 wrote at bytes old new may (inl done) = subst (λ (d : Disk). Wrote (record { at = at; count = length bytes }) old d) (sym done) (record { synced = refl; written = refl; shows = overwritten_torn old.shows at bytes may })
-wrote at bytes old new may (inr broken) = broken
+wrote at bytes old new may (inr w) = w
 
 -- what keeps the synced bytes outside some ranges keeps them outside more
 keeps_more : (synced : List ℕ) (range : Range) (ranges : List Range) (bytes : List ℕ) → KeepsSynced synced ranges bytes → KeepsSynced synced (range ∷ ranges) bytes
@@ -82,8 +82,10 @@ wrote_is_disk range old new is w = record {
       elsewhere = λ offset below outside. w.shows.elsewhere offset (omega (arith, is.keeps.no_shorter, below)) (λ inside. outside (inl inside)) ∙ is.keeps.elsewhere offset below (λ inside. outside (inr inside));
     }
 
-pub calls_keep_disk : (call : DiskCall) (old new : Disk) → IsDisk old → MayCall call old → Done call old new ⊎ Broken call old new → IsDisk new
-calls_keep_disk (Write at bytes) old new is may does = wrote_is_disk (record { at = at; count = length bytes }) old new is (wrote at bytes old new may does)
+pub calls_keep_disk : (call : DiskCall) (old new : Disk) → IsDisk old → MayCall call old → Done call old new ⊎ FailedOrUnderWay call old new → IsDisk new
+calls_keep_disk (Write at bytes) old new is may (inl done) = wrote_is_disk (record { at = at; count = length bytes }) old new is (wrote at bytes old new may (inl done))
+calls_keep_disk (Write at bytes) old new is may (inr (inl same)) = subst IsDisk (sym same) is
+calls_keep_disk (Write at bytes) old new is may (inr (inr w)) = wrote_is_disk (record { at = at; count = length bytes }) old new is w
 calls_keep_disk Sync old new is may (inl done) = subst IsDisk (sym done) (record { still = λ _. refl; keeps = keeps_itself old.shows [] })
 calls_keep_disk Sync old new is may (inr same) = subst IsDisk (sym same) is
 
@@ -99,11 +101,15 @@ pub was_left : (synced : List ℕ) (written : List Range) (shows left : List ℕ
 was_left synced [] shows left still is = subst (KeepsSynced synced []) (sym (is ∙ still refl)) (keeps_itself synced [])
 was_left synced (range ∷ ranges) shows left still is = is
 
-pub writes_may_be_lost : (at : ℕ) (payload : List ℕ) (old new : Disk) (left : List ℕ) → IsDisk old → MayCall (Write at payload) old → Done (Write at payload) old new ⊎ Broken (Write at payload) old new → Leaves old left → Leaves new left
-writes_may_be_lost at payload old new left is may does is_left =
-    let w = wrote at payload old new may does in
-    let range : Range = record { at = at; count = length payload } in
+-- what may be left before a write that did something may be left after it
+wrote_may_be_lost : (range : Range) (old new : Disk) (left : List ℕ) → IsDisk old → Wrote range old new → Leaves old left → Leaves new left
+wrote_may_be_lost range old new left is w is_left =
     keeps_left range old new left w.synced w.written (keeps_more old.synced range old.written left (was_left old.synced old.written old.shows left is.still is_left))
+
+pub writes_may_be_lost : (at : ℕ) (payload : List ℕ) (old new : Disk) (left : List ℕ) → IsDisk old → MayCall (Write at payload) old → Done (Write at payload) old new ⊎ FailedOrUnderWay (Write at payload) old new → Leaves old left → Leaves new left
+writes_may_be_lost at payload old new left is may (inl done) is_left = wrote_may_be_lost (record { at = at; count = length payload }) old new left is (wrote at payload old new may (inl done)) is_left
+writes_may_be_lost at payload old new left is may (inr (inl same)) is_left = subst (λ (d : Disk). Leaves d left) (sym same) is_left
+writes_may_be_lost at payload old new left is may (inr (inr w)) is_left = wrote_may_be_lost (record { at = at; count = length payload }) old new left is w is_left
 
 -- ---- outside the range of a write
 
@@ -165,10 +171,14 @@ outside_range synced (first ∷ written) shows range left still keeps offset byt
     get_or-mended (within range) synced 0 left offset below ∙ ap (λ (n : ℕ). cond (within range n) (get_or synced n 0) (get_or left offset 0)) (omega arith) ∙ ap (λ (b : Bool). cond b (get_or synced offset 0) (get_or left offset 0)) apart in
     (below, sym same ∙ image.1)
 
-pub writes_stay_in_range : (at : ℕ) (payload : List ℕ) (old new : Disk) → IsDisk old → MayCall (Write at payload) old → Done (Write at payload) old new ⊎ Broken (Write at payload) old new
+stays_in_range : (range : Range) (old new : Disk) → IsDisk old → Wrote range old new → (offset byte : ℕ) → (IsWithin offset range → ⊥) → ((left : List ℕ) → Leaves old left → (offset < length left) × (get_or left offset 0 ≡ byte))
+    → (left : List ℕ) → Leaves new left → (offset < length left) × (get_or left offset 0 ≡ byte)
+stays_in_range range old new is w offset byte outside all left is_left =
+    outside_range old.synced old.written old.shows range left is.still (left_keeps range old new left w.synced w.written is_left) offset byte outside all
+
+pub writes_stay_in_range : (at : ℕ) (payload : List ℕ) (old new : Disk) → IsDisk old → MayCall (Write at payload) old → Done (Write at payload) old new ⊎ FailedOrUnderWay (Write at payload) old new
     → (offset byte : ℕ) → (IsWithin offset (record { at = at; count = length payload }) → ⊥) → ((left : List ℕ) → Leaves old left → (offset < length left) × (get_or left offset 0 ≡ byte))
     → (left : List ℕ) → Leaves new left → (offset < length left) × (get_or left offset 0 ≡ byte)
-writes_stay_in_range at payload old new is may does offset byte outside all left is_left =
-    let range : Range = record { at = at; count = length payload } in
-    let w = wrote at payload old new may does in
-    outside_range old.synced old.written old.shows range left is.still (left_keeps range old new left w.synced w.written is_left) offset byte outside all
+writes_stay_in_range at payload old new is may (inl done) offset byte outside all left is_left = stays_in_range (record { at = at; count = length payload }) old new is (wrote at payload old new may (inl done)) offset byte outside all left is_left
+writes_stay_in_range at payload old new is may (inr (inl same)) offset byte outside all left is_left = all left (subst (λ (d : Disk). Leaves d left) same is_left)
+writes_stay_in_range at payload old new is may (inr (inr w)) offset byte outside all left is_left = stays_in_range (record { at = at; count = length payload }) old new is w offset byte outside all left is_left

@@ -41,9 +41,16 @@ disk = record {
   over = refl;
   over_the_end = refl;
   write_done = refl;
-  write_failed = record { synced = refl; written = refl; shows = record { no_shorter = omega arith; no_longer = omega arith; elsewhere = torn_elsewhere } };
-  not_outside = λ w. let h : ◌≡◌ {A = ℕ} 255 3 = w.shows.elsewhere 2 (omega arith) not_third in omega arith;
-  not_longer = λ w. let h : 4 ≤ 3 = w.shows.no_longer in omega arith;
+  write_failed = inr (record { synced = refl; written = refl; shows = record { no_shorter = omega arith; no_longer = omega arith; elsewhere = torn_elsewhere } });
+  write_undone = inl refl;
+  not_outside = λ broken. elim broken [
+    | inl same ↦ let h : ◌≡◌ {A = ℕ} 255 3 = ap (λ (d : Disk). get_or d.shows 2 0) same in omega arith
+    | inr w ↦ let h : ◌≡◌ {A = ℕ} 255 3 = w.shows.elsewhere 2 (omega arith) not_third in omega arith
+  ];
+  not_longer = λ broken. elim broken [
+    | inl same ↦ let h : ◌≡◌ {A = ℕ} 4 3 = ap (λ (d : Disk). length d.shows) same in omega arith
+    | inr w ↦ let h : 4 ≤ 3 = w.shows.no_longer in omega arith
+  ];
   sync_done = refl;
   kept = kept_by 9 [];
   lost = kept_by 2 [];
@@ -81,6 +88,7 @@ calls = record {
   first_lost = kept_twice 2 (7 ∷ []);
   second_lost = kept_twice 9 [];
   not_alone = λ only. let h : ◌≡◌ {A = ℕ} 2 9 = ap (λ (l : List ℕ). get_or l 1 0) (only (1 ∷ 2 ∷ 3 ∷ []) (kept_by 2 [])) in omega arith;
+  went_through = refl;
 }
 
 -- a batch of which one byte of two was written
@@ -106,13 +114,13 @@ gate_is_torn gate = record { no_shorter = omega arith; no_longer = omega arith; 
 pub append : WorkedAppend
 append = record {
   at_first = inl refl;
-  in_batch = inr (inl (record { synced = refl; written = refl; shows = batch_is_torn }));
+  in_batch = inr (inl (inr (record { synced = refl; written = refl; shows = batch_is_torn })));
   between = inr (inr (_, refl, inr (inr (_, refl, inl refl))));
-  in_gate = inr (inr (_, refl, inr (inr (_, refl, inr (inl (record { synced = refl; written = refl; shows = gate_is_torn 255 }))))));
+  in_gate = inr (inr (_, refl, inr (inr (_, refl, inr (inl (inr (record { synced = refl; written = refl; shows = gate_is_torn 255 })))))));
   unkept = inr (inr (_, refl, inr (inr (_, refl, inr (inr (_, refl, inl refl))))));
   at_last = inr (inr (_, refl, inr (inr (_, refl, inr (inr (_, refl, inr (inr (_, refl, refl))))))));
   stages = (_, refl, (_, refl, refl));
-  gate_fails = inl (record { synced = refl; written = refl; shows = gate_is_torn 255 });
+  gate_fails = inl (inr (record { synced = refl; written = refl; shows = gate_is_torn 255 }));
   sync_fails = inr (_, refl, refl);
   settles = (_, refl, (_, refl, refl));
   before = (255 ∷ [], refl);

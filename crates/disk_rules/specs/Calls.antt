@@ -33,15 +33,15 @@ abbrev pub Done : DiskCall → Disk → Disk → Type 0
 Done (Write at bytes) old new = new ≡ record { synced = old.synced; written = record { at = at; count = length bytes } ∷ old.written; shows = overwritten old.shows at bytes }
 Done Sync old new = new ≡ record { synced = old.shows; written = []; shows = old.shows }
 
--- after a call that failed, and at each moment within a call: a write is in its range, and a sync hasn't done anything
-abbrev pub Broken : DiskCall → Disk → Disk → Type 0
-Broken (Write at bytes) old now = Wrote (record { at = at; count = length bytes }) old now
-Broken Sync old now = now ≡ old
+-- after a call that failed, and at each moment within a call: a write hasn't done anything, or is in its range; a sync hasn't done anything
+abbrev pub FailedOrUnderWay : DiskCall → Disk → Disk → Type 0
+FailedOrUnderWay (Write at bytes) old now = (now ≡ old) ⊎ Wrote (record { at = at; count = length bytes }) old now
+FailedOrUnderWay Sync old now = now ≡ old
 
 -- a moment of these calls, made one after another until one fails
 abbrev pub Reaches : List DiskCall → Disk → Disk → Type 0
 Reaches [] old now = now ≡ old
-Reaches (call ∷ calls) old now = (now ≡ old) ⊎ (Broken call old now ⊎ ((mid : Disk) × Done call old mid × Reaches calls mid now))
+Reaches (call ∷ calls) old now = (now ≡ old) ⊎ (FailedOrUnderWay call old now ⊎ ((mid : Disk) × Done call old mid × Reaches calls mid now))
 
 -- after all of them succeeded
 abbrev pub AllDone : List DiskCall → Disk → Disk → Type 0

@@ -1,8 +1,9 @@
 -- Worked examples: one byte written over three, and an append of a batch of one byte.
 use Rattle.std.specs.Prelude.{◌≡◌, [], ◌∷◌}
 use Rattle.disk_rules.specs.Disk.{Disk, Leaves, LeavesOnly, IsDisk, Since}
-use Rattle.disk_rules.specs.Calls.{Write, Sync, MayCall, Done, Broken, Reaches, AllDone, overwritten}
-use Rattle.disk_rules.specs.Append.{append_calls, settle_calls, stage_calls, StopsAtGate, IsAsBefore, IsWithBatch}
+use Rattle.disk_rules.specs.Calls.{Write, Sync, MayCall, Done, FailedOrUnderWay, Reaches, AllDone, overwritten}
+use Rattle.disk_rules.specs.History.{moments, history_of}
+use Rattle.disk_rules.specs.Append.{append_calls, settle_calls, stage_calls, FailsAtGate, IsAsBefore, IsWithBatch}
 
 -- three bytes, all synced
 abbrev pub at_rest : Disk
@@ -27,9 +28,10 @@ pub record WorkedDisk : Type 0 where
   pub over : overwritten (1 ∷ 2 ∷ 3 ∷ []) 1 (9 ∷ []) ≡ 1 ∷ 9 ∷ 3 ∷ []
   pub over_the_end : overwritten (1 ∷ 2 ∷ 3 ∷ []) 2 (8 ∷ 9 ∷ []) ≡ 1 ∷ 2 ∷ 8 ∷ 9 ∷ []
   pub write_done : Done (Write 1 (9 ∷ [])) at_rest unsynced
-  pub write_failed : Broken (Write 1 (9 ∷ [])) at_rest (record { synced = 1 ∷ 2 ∷ 3 ∷ []; written = record { at = 1; count = 1 } ∷ []; shows = 1 ∷ 255 ∷ 3 ∷ [] })
-  pub not_outside : Broken (Write 1 (9 ∷ [])) at_rest (record { synced = 1 ∷ 2 ∷ 3 ∷ []; written = record { at = 1; count = 1 } ∷ []; shows = 1 ∷ 2 ∷ 255 ∷ [] }) → ⊥
-  pub not_longer : Broken (Write 1 (9 ∷ [])) at_rest (record { synced = 1 ∷ 2 ∷ 3 ∷ []; written = record { at = 1; count = 1 } ∷ []; shows = 1 ∷ 2 ∷ 3 ∷ 4 ∷ [] }) → ⊥
+  pub write_failed : FailedOrUnderWay (Write 1 (9 ∷ [])) at_rest (record { synced = 1 ∷ 2 ∷ 3 ∷ []; written = record { at = 1; count = 1 } ∷ []; shows = 1 ∷ 255 ∷ 3 ∷ [] })
+  pub write_undone : FailedOrUnderWay (Write 1 (9 ∷ [])) at_rest at_rest
+  pub not_outside : FailedOrUnderWay (Write 1 (9 ∷ [])) at_rest (record { synced = 1 ∷ 2 ∷ 3 ∷ []; written = record { at = 1; count = 1 } ∷ []; shows = 1 ∷ 2 ∷ 255 ∷ [] }) → ⊥
+  pub not_longer : FailedOrUnderWay (Write 1 (9 ∷ [])) at_rest (record { synced = 1 ∷ 2 ∷ 3 ∷ []; written = record { at = 1; count = 1 } ∷ []; shows = 1 ∷ 2 ∷ 3 ∷ 4 ∷ [] }) → ⊥
   pub sync_done : Done Sync unsynced synced_again
   -- before the sync the write may be kept, lost or torn, and the file may be longer
   pub kept : Leaves unsynced (1 ∷ 9 ∷ 3 ∷ [])
@@ -41,7 +43,7 @@ pub record WorkedDisk : Type 0 where
   pub other_behind : Leaves unsynced (1 ∷ 9 ∷ 0 ∷ []) → ⊥
   pub shorter : Leaves unsynced (1 ∷ 9 ∷ []) → ⊥
   -- a failed sync leaves that so, a sync that succeeds leaves one
-  pub lost_still : (now : Disk) → Broken Sync unsynced now → Leaves now (1 ∷ 2 ∷ 3 ∷ [])
+  pub lost_still : (now : Disk) → FailedOrUnderWay Sync unsynced now → Leaves now (1 ∷ 2 ∷ 3 ∷ [])
   pub lost_no_more : LeavesOnly synced_again (1 ∷ 9 ∷ 3 ∷ [])
   -- of the three moments, the write was lost at the second alone, number 1, or not begun at the first
   pub since_first : Since 0 (synced_again ∷ unsynced ∷ at_rest ∷ []) (1 ∷ 2 ∷ 3 ∷ [])
@@ -73,6 +75,8 @@ pub record WorkedCalls : Type 0 where
   pub first_lost : Leaves written_twice (1 ∷ 2 ∷ 3 ∷ 7 ∷ [])
   pub second_lost : Leaves written_twice (1 ∷ 9 ∷ 3 ∷ [])
   pub not_alone : LeavesOnly unsynced (1 ∷ 9 ∷ 3 ∷ []) → ⊥
+  -- a write and a sync that succeed go through three moments
+  pub went_through : moments (history_of (1 ∷ 2 ∷ 3 ∷ []) (Write 1 (9 ∷ []) ∷ Sync ∷ [])) ≡ synced_again ∷ unsynced ∷ at_rest ∷ []
 
 -- the moments of that append of the byte 6 behind the log of one byte
 abbrev pub batch_torn : Disk
@@ -97,8 +101,8 @@ pub record WorkedAppend : Type 0 where
   pub at_last : Reaches (append_calls 1 (6 ∷ [])) small_log grown_log
   -- its first two calls, after which the gate may fail, or the sync behind it
   pub stages : AllDone (stage_calls 1 (6 ∷ [])) small_log staged
-  pub gate_fails : StopsAtGate 1 staged gate_torn
-  pub sync_fails : StopsAtGate 1 staged gate_written
+  pub gate_fails : FailsAtGate 1 staged gate_torn
+  pub sync_fails : FailsAtGate 1 staged gate_written
   pub settles : AllDone (settle_calls 1) gate_torn grown_log
   -- the log as before and whatever stands behind its closed gate; with the batch behind any open gate
   pub before : IsAsBefore (5 ∷ []) (5 ∷ 0 ∷ 255 ∷ [])

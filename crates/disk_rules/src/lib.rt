@@ -1,17 +1,19 @@
 //! The words for a disk: what it shows, what a crash now may leave, and what a crash since a moment may
 //! have left (`Disk`); what a write and a sync do to it, also where they fail or are cut short (`Calls`);
-//! how a batch is appended so that one byte decides, and when one is in doubt or none is (`Append`); and the
-//! laws that hold of these words alone.
+//! the moments that it went through, and what holds of each image since one of them (`History`); how a
+//! batch is appended so that one byte decides, and when one is in doubt or none is (`Append`); and the laws
+//! that hold of these words alone.
 //!
 //! A disk is seen as the bytes of its last sync that succeeded, the ranges that were written since, and
 //! what reads give. Until the next sync that succeeds, a crash may leave any bytes in those ranges and
-//! past the synced end, and leaves all others.
+//! past the synced end, and leaves all others. A write that failed may have done nothing at all, or any
+//! part of what it was to do.
 //!
 //! Each function has an empty body, and its contract is the law that its name says. The crate stands on
 //! no other one.
 #![tactic(auto)]
 
-ghost use Rattle.disk_rules.specs.Laws.{ShowsIsLeft, CallsKeepDisk, SyncLeavesShown, FailedSyncLeavesAll, WritesStayInRange, WritesMayBeLost, SinceGrows, SinceEarlier, SinceNow, SinceParts, RestIsSettled, BehindGateIsSettled, StagingStaysSettled, AppendIsAllOrNothing, AppendIsKept, AppendEndsSettled, AppendIsSettledOrInDoubt, StagedIsInDoubt, DoubtStays, SettleIsAllOrNothing, SettleIsKept, SettleEndsSettled};
+ghost use Rattle.disk_rules.specs.Laws.{ShowsIsLeft, CallsKeepDisk, SyncLeavesShown, FailedSyncLeavesAll, WritesStayInRange, WritesMayBeLost, SinceGrows, SinceEarlier, SinceNow, SinceParts, RestIsSettled, BehindGateIsSettled, StagingStaysSettled, AppendIsAllOrNothing, AppendIsKept, AppendEndsSettled, AppendIsSettledOrInDoubt, StagedIsInDoubt, DoubtStays, SettleIsAllOrNothing, SettleIsKept, SettleEndsSettled, CallsMakeDisk};
 ghost use Rattle.disk_rules.specs.Examples.{WorkedDisk, WorkedCalls, WorkedAppend};
 ghost use Rattle.disk_rules.specs.Retries.{WorkedRetry};
 
@@ -97,7 +99,7 @@ pub fn append_is_kept()
     ensures { AppendIsKept }
 {}
 
-/// After such an append the disk is at rest, and the log is settled behind a front that has the batch.
+/// After such an append the disk is at rest, and the log is settled behind a prefix that has the batch.
 pub fn append_ends_settled()
     ensures { AppendEndsSettled }
 {}
@@ -129,9 +131,14 @@ pub fn settle_is_kept()
     ensures { SettleIsKept }
 {}
 
-/// After it was settled the disk is at rest, and the log is settled behind a front that has the batch.
+/// After it was settled the disk is at rest, and the log is settled behind a prefix that has the batch.
 pub fn settle_ends_settled()
     ensures { SettleEndsSettled }
+{}
+
+/// Whatever calls succeeded, a disk that began with bytes that were synced is a disk.
+pub fn calls_make_disk()
+    ensures { CallsMakeDisk }
 {}
 
 /// One byte written over three, worked out: what a crash may leave before the sync and after it, and

@@ -1,6 +1,6 @@
 //! A growing run of bytes.
 
-ghost use Rattle.std.specs.Prelude.{◌≡◌, ◌≤◌, ◌+◌, [], ◌∷◌, ◌++◌, length, take, drop, ◌==◌, IfOk, IsOk, OnOk, OnErr};
+ghost use Rattle.std.specs.Prelude.{◌≡◌, ◌≤◌, ◌+◌, [], ◌∷◌, ◌++◌, length, take, drop, ◌==◌, IfOk, IsOk, OnOk, OnErr, vec_capacity};
 
 use crate::no_memory::NoMemory;
 use std::alloc::Global;
@@ -39,9 +39,10 @@ impl Bytes {
         }
     }
 
-    /// The bytes of `inner`. It takes no memory.
+    /// The bytes of `inner`, with the memory that `inner` has. It takes none.
     pub fn from_vec(inner: Vec<u8>) -> Bytes
         ensures items { result.items ≡ inner.items }
+        ensures reserved { result.reserved ≡ vec_capacity inner }
     {
         Bytes { inner }
     }

@@ -1,4 +1,3 @@
-pub mod CountLaws
 pub mod SourceLaws
 pub mod SinkLaws
 pub mod ComingLaws
@@ -6,3 +5,8 @@ pub mod EntropyLaws
 pub mod ClockLaws
 pub mod SupplyLaws
 pub mod LoopLaws
+pub mod DiskRuns
+pub mod ChangeLaws
+pub mod CrashLaws
+pub mod LinkLaws
+pub mod ExchangeLaws

@@ -1,11 +1,10 @@
 // A disk and a link that aren't there, for callers that are given none.
 ghost use Rattle.std.specs.Prelude.{◌≡◌, ◌≤◌, IsErr};
-ghost use Rattle.at_edge.specs.Counts.{Rose};
-ghost use Rattle.at_edge.specs.Storing.{Stores};
+ghost use Rattle.definitions.specs.Counts.{Rose};
 ghost use Rattle.at_edge.specs.Taking.{Reads};
 ghost use Rattle.at_edge.specs.Writing.{Writes};
-ghost use Rattle.at_edge.specs.Linking.{both, Starts};
-ghost use Rattle.at_edge.specs.MemoryForms.{no_source, no_sink};
+ghost use Rattle.at_edge.specs.Linking.{StartsExchange};
+ghost use Rattle.at_edge.specs.MemoryForms.{no_source, no_sink, no_link};
 
 use crate::faults::count_fault;
 use crate::{Disk, DiskFault, Got, Link, LinkFault, Sink, Source, Took};
@@ -35,35 +34,46 @@ impl AbsentDisk {
 }
 
 impl Disk for AbsentDisk {
-    ghost disk = { λ faults. record { faults = faults } };
+    ghost use Rattle.std.specs.Prelude.{length};
+    ghost use Rattle.disk_rules.specs.Calls.{Write, Sync};
+    ghost use Rattle.at_edge.specs.Storing.{Measures, ReadsAt, Changes, MayRead, MayChange};
+    ghost use Rattle.at_edge.specs.Silent.{silent};
+
+    ghost disk = { silent };
+
+    ghost whole = { λ d. tt };
 
     fn len(&mut self) -> Result<u64, DiskFault>
         ensures fails { IsErr result }
-        ensures counted { Stores (record { faults = self.old }) (record { faults = self.new }) result }
+        ensures counted { Measures (silent self.old) (silent self.new) result }
     {
         count_fault(&mut self.faults);
         Err(DiskFault)
     }
 
-    fn read_at(&mut self, _at: u64, _into: &mut [u8]) -> Result<(), DiskFault>
+    fn read_at(&mut self, at: u64, into: &mut [u8]) -> Result<(), DiskFault>
         ensures fails { IsErr result }
-        ensures counted { Stores (record { faults = self.old }) (record { faults = self.new }) result }
+        ensures counted { ReadsAt (silent self.old) (silent self.new) result at into.new }
     {
+        let _ = at;
+        let _ = into;
         count_fault(&mut self.faults);
         Err(DiskFault)
     }
 
-    fn write_at(&mut self, _at: u64, _from: &[u8]) -> Result<(), DiskFault>
+    fn write_at(&mut self, at: u64, from: &[u8]) -> Result<(), DiskFault>
         ensures fails { IsErr result }
-        ensures counted { Stores (record { faults = self.old }) (record { faults = self.new }) result }
+        ensures counted { Changes (silent self.old) (silent self.new) result (Write at from.now) }
     {
+        let _ = at;
+        let _ = from;
         count_fault(&mut self.faults);
         Err(DiskFault)
     }
 
     fn sync(&mut self) -> Result<(), DiskFault>
         ensures fails { IsErr result }
-        ensures counted { Stores (record { faults = self.old }) (record { faults = self.new }) result }
+        ensures counted { Changes (silent self.old) (silent self.new) result Sync }
     {
         count_fault(&mut self.faults);
         Err(DiskFault)
@@ -127,14 +137,15 @@ impl Sink for AbsentLink {
 impl Link for AbsentLink {
     ghost use Rattle.std.proofs.Common.{refl};
 
+    ghost link = { no_link };
+
+    ghost sides = { λ _. record { source_is = refl; sink_is = refl } };
+
     fn start(&mut self) -> Result<(), LinkFault>
         ensures fails { IsErr result }
-        ensures counted { Starts (both (no_source self.old) (no_sink self.old))
-            (both (no_source self.new) (no_sink self.new)) result }
+        ensures counted { StartsExchange (no_link self.old) (no_link self.new) result }
     {
         count_fault(&mut self.faults);
         Err(LinkFault)
     }
-
-    ghost one_count = { λ _. refl };
 }

@@ -86,51 +86,70 @@ pub trait Clock {
 #[derive(Clone, Copy, Debug, PartialEq, Eq)]
 pub struct DiskFault;
 
-/// A disk of one file. Its contract so far is its count of faults alone: what reads give and what a crash leaves is
-/// not said yet.
+/// A disk of one file. One that tells has a history: the disk as it is now, and at each moment before. A write or sync
+/// that succeeds adds one moment, one that fails adds one or none, and no other call adds any. By its moments it is known
+/// what a crash now may leave, and what a crash since an earlier moment may have left.
 pub trait Disk {
-    ghost use Rattle.at_edge.specs.Counts.{Rose};
-    ghost use Rattle.at_edge.specs.Storing.{DiskSeen, Stores};
+    ghost use Rattle.std.specs.Prelude.{◌≡◌, IfOk, None, length};
+    ghost use Rattle.disk_rules.specs.Disk.{IsDisk};
+    ghost use Rattle.disk_rules.specs.Calls.{Write, Sync};
+    ghost use Rattle.definitions.specs.Counts.{Rose};
+    ghost use Rattle.at_edge.specs.Storing.{DiskSeen, Tells, Measures, MayRead, ReadsAt, MayChange, Changes, Rests, IsMeasurable};
 
-    /// The count of faults.
+    /// The history, and the count of faults.
     ghost disk: { Self → DiskSeen };
 
-    /// The length in bytes.
+    /// The length in bytes of what the disk shows.
     fn len(&mut self) -> Result<u64, DiskFault>
-        ensures { Stores (disk self.old) (disk self.new) result };
+        ensures { Measures (disk self.old) (disk self.new) result };
 
-    /// Fills the slice with the bytes from byte `at` on. A range that isn't there is a fault.
+    /// Fills the slice with the bytes from byte `at` on. Where the disk tells, they have to be there; where it
+    /// doesn't, a range that isn't there is a fault.
     fn read_at(&mut self, at: u64, into: &mut [u8]) -> Result<(), DiskFault>
-        ensures { Stores (disk self.old) (disk self.new) result };
+        requires { MayRead (disk self.old) at (length into.old) }
+        ensures { ReadsAt (disk self.old) (disk self.new) result at into.new };
 
-    /// Writes these bytes from byte `at` on, over what is there and past the end.
+    /// Writes these bytes from byte `at` on, over what is there and past the end. Where the disk tells, `at` is at
+    /// most its length.
     fn write_at(&mut self, at: u64, from: &[u8]) -> Result<(), DiskFault>
-        ensures { Stores (disk self.old) (disk self.new) result };
+        requires { MayChange (disk self.old) (Write at from.now) }
+        ensures writes { Changes (disk self.old) (disk self.new) result (Write at from.now) }
+        ensures measured { IfOk result (λ _. Tells (disk self.new) IsMeasurable) };
 
-    /// Makes what was written outlast a crash.
+    /// Makes what was written outlast a crash. After a sync that fails a crash may leave what it might have left before.
     fn sync(&mut self) -> Result<(), DiskFault>
-        ensures { Stores (disk self.old) (disk self.new) result };
+        ensures { Changes (disk self.old) (disk self.new) result Sync };
 
-    /// Counts a fault, for a caller that read what the disk can't have held.
+    /// Counts a fault, for a caller that read what no disk that tells can have shown. So this has to be one that doesn't
+    /// tell.
     fn disown(&mut self) -> DiskFault
-        ensures { Rose (disk self.old).faults (disk self.new).faults };
+        requires { (disk self.old).history ≡ None }
+        ensures rests { Rests (disk self.old) (disk self.new) }
+        ensures counted { Rose (disk self.old).faults (disk self.new).faults };
+
+    /// What a disk shows is what it synced, but for what was written since.
+    ghost whole: { (d : Self) → Tells (disk d) IsDisk };
 }
 
 /// The start of an exchange failed.
 #[derive(Clone, Copy, Debug, PartialEq, Eq)]
 pub struct LinkFault;
 
-/// A link to a peer, over which exchanges of bytes out and bytes in go one after the other. Its reads, writes and
-/// starts have one count of faults. What an exchange gives is not said yet.
+/// A link to a peer, over which exchanges of bytes out and bytes in go one after the other. One that tells has all the
+/// exchanges that it began, with what was sent and what was received in each; it is a source of what is received in the
+/// one under way, and a sink of what is sent in it. Its reads, writes and starts have one count of faults.
 pub trait Link: Source + Sink {
-    ghost use Rattle.std.specs.Prelude.{◌≡◌};
-    ghost use Rattle.at_edge.specs.Linking.{both, Starts};
+    ghost use Rattle.at_edge.specs.Linking.{LinkSeen, HasSides, StartsExchange};
 
-    /// Begins a new exchange: the next reads and writes belong to it. A start that fails leaves all but the count.
+    /// The exchanges, what is left to be received in the one under way, and the count of faults.
+    ghost link: { Self → LinkSeen };
+
+    /// Begins a new exchange, in which nothing was sent or received yet: the next reads and writes belong to it. A start
+    /// that fails leaves all but the count.
     fn start(&mut self) -> Result<(), LinkFault>
-        ensures { Starts (both (Self.source self.old) (Self.sink self.old))
-            (both (Self.source self.new) (Self.sink self.new)) result };
+        ensures { StartsExchange (link self.old) (link self.new) result };
 
-    /// The two directions have one count.
-    ghost one_count: { (l : Self) → (Self.source l).faults ≡ (Self.sink l).faults };
+    /// The two directions are those of the exchange under way. So a read leaves what was sent, a write leaves what was
+    /// received, and both leave the earlier exchanges.
+    ghost sides: { (l : Self) → HasSides (link l) (Self.source l) (Self.sink l) };
 }

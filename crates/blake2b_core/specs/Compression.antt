@@ -23,6 +23,21 @@ mix a b c d x y =
     let half = half_mix a b c d x 32 24 in
     half_mix half.0 half.1 half.2 half.3 y 16 63
 
+-- G on the four columns of four rows, with message words for each
+abbrev pub mix_columns : List ℕ × List ℕ × List ℕ × List ℕ → List ℕ → List ℕ → List ℕ × List ℕ × List ℕ × List ℕ
+mix_columns rows x y =
+    let mixed : ℕ → ℕ × ℕ × ℕ × ℕ = λ i.
+    mix (slice_index rows.0 i) (slice_index rows.1 i) (slice_index rows.2 i) (slice_index rows.3 i) (slice_index x i) (slice_index y i) in (
+      (mixed 0).0 ∷ (mixed 1).0 ∷ (mixed 2).0 ∷ (mixed 3).0 ∷ [],
+      (mixed 0).1 ∷ (mixed 1).1 ∷ (mixed 2).1 ∷ (mixed 3).1 ∷ [],
+      (mixed 0).2 ∷ (mixed 1).2 ∷ (mixed 2).2 ∷ (mixed 3).2 ∷ [],
+      (mixed 0).3 ∷ (mixed 1).3 ∷ (mixed 2).3 ∷ (mixed 3).3 ∷ [],
+    )
+
+-- the working vector that has these rows
+abbrev pub vector_of : List ℕ × List ℕ × List ℕ × List ℕ → List ℕ
+vector_of rows = rows.0 ++ rows.1 ++ rows.2 ++ rows.3
+
 -- G on the words of v at the places a, b, c and d
 abbrev pub mix_at : List ℕ → ℕ → ℕ → ℕ → ℕ → ℕ → ℕ → List ℕ
 mix_at v a b c d x y =

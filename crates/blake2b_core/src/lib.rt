@@ -92,9 +92,9 @@ impl Blake2b {
         requires { length out.old ≡ self.out_len }
         ensures { (key text : List ℕ) → Holds self key text → out.new ≡ blake2b self.out_len key text }
     {
-        let held = self.held;
-        let block = padded(&self.buffer[..held]);
-        let count = self.count.wrapping_add(held as u128);
+        let mut block = self.buffer;
+        block[self.held..].fill(0);
+        let count = self.count.wrapping_add(self.held as u128);
         let mut state = self.state;
         compress(&mut state, &block, count, true);
         let bytes = bytes_of(&state);

@@ -1,7 +1,0 @@
-use Rattle.std.proofs.Common.{refl}
-use Rattle.blake2b_core.specs.Compression.{mix}
-use Rattle.blake2b_core.proofs.compression.mix.Goals as goal
-
-pub returns : goal.returns
-unfolding mix
-returns c = rw (c.rotate_right-b-2.ensures, c.rotate_right-d-2.ensures, c.rotate_right-b.ensures, c.rotate_right-d.ensures) refl

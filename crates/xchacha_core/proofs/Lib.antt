@@ -1,3 +1,6 @@
+mod Blocks
+mod Bytes
+mod Columns
+mod Rounds
 mod Pieces
-mod Sums
 pub mod StreamLaws

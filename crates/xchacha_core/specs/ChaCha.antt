@@ -52,6 +52,10 @@ word_at bytes i =
     from_le_bytes w32 (slice_index bytes (4 * i) ∷ slice_index bytes (4 * i + 1)
     ∷ slice_index bytes (4 * i + 2) ∷ slice_index bytes (4 * i + 3) ∷ [])
 
+-- four words of some bytes, from the i-th on
+abbrev pub words_at : List ℕ → ℕ → List ℕ
+words_at bytes i = word_at bytes i ∷ word_at bytes (i + 1) ∷ word_at bytes (i + 2) ∷ word_at bytes (i + 3) ∷ []
+
 -- the bytes of some words, low byte first (2.3, serialize)
 abbrev pub serialized : List ℕ → List ℕ
 serialized words = flat_map (to_le_bytes w32) words

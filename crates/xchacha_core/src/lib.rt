@@ -8,11 +8,17 @@
 //! buffer XChaCha20 of what was there, for every length below 2^32. Both are total and take no memory.
 //! Nothing is said of the time that a call takes.
 //!
+//! Blocks are made in vectors: four at once while 256 bytes are left, and then as many as the rest needs.
+//! `specs/Rows.antt` says where the words of their states stand.
+//!
 //! It stands on nothing but std.
 #![tactic(auto)]
 
-mod block;
+mod four_blocks;
+mod one_block;
+mod rows;
 mod stream;
+mod two_blocks;
 
 pub use stream::{hchacha20, xchacha20_xor};
 

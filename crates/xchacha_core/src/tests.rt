@@ -1,5 +1,6 @@
 use super::*;
-use crate::block::{key_block, state_of};
+use crate::one_block::xor_block;
+use crate::stream::rows_of;
 use std::process::Abort;
 
 // The bytes 00 to 1f, the key of both standards' first vectors.
@@ -11,8 +12,9 @@ const COUNTED_KEY: [u8; 32] = [
 // RFC 8439, 2.3.2.
 #[test]
 fn block_of_the_standard(rt: HostRuntime) {
-    let start = state_of(&COUNTED_KEY, [0, 0x0900_0000, 0x4a00_0000, 0]);
-    let block = key_block(&start, 1);
+    let start = rows_of(&COUNTED_KEY, [0, 0x0900_0000, 0x4a00_0000, 0]);
+    let mut block = [0; 64];
+    xor_block(&start, 1, &mut block);
     let begins = [
         0x10, 0xf1, 0xe7, 0xe4, 0xd1, 0x3b, 0x59, 0x15, 0x50, 0x0f, 0xdd, 0x1f, 0xa3, 0x20, 0x71,
         0xc4,
@@ -78,5 +80,36 @@ fn check_prefix(rt: &impl Abort, len: usize) {
 fn texts_of_the_standard(rt: HostRuntime) {
     for len in [0, 1, 63, 64, 65, 130] {
         check_prefix(&rt, len);
+    }
+}
+
+// The nonce of the standard's subkey, and eight zero bytes.
+const LONG_NONCE: [u8; 24] = [
+    0x00, 0x00, 0x00, 0x09, 0x00, 0x00, 0x00, 0x4a, 0x00, 0x00, 0x00, 0x00, 0x31, 0x41, 0x59, 0x27,
+    0x00, 0x00, 0x00, 0x00, 0x00, 0x00, 0x00, 0x00,
+];
+
+// FNV-1a of the first 1,000 bytes of the key stream, by libsodium, and by OpenSSL's ChaCha20 likewise.
+const DIGEST_OF_STREAM: u64 = 0x8d43_5673_ac76_2998;
+
+fn digest_of(bytes: &[u8]) -> u64 {
+    let mut digest: u64 = 0xcbf2_9ce4_8422_2325;
+    for &byte in bytes {
+        digest = (digest ^ u64::from(byte)).wrapping_mul(0x0000_0100_0000_01b3);
+    }
+    digest
+}
+
+// Zero bytes become the key stream, at each length: its first bytes, and no byte behind them.
+#[test]
+fn streams_of_each_length(rt: HostRuntime) {
+    let mut stream = [0; 1000];
+    xchacha20_xor(&COUNTED_KEY, &LONG_NONCE, &mut stream);
+    assert_eq!(rt; digest_of(&stream), DIGEST_OF_STREAM);
+    for len in 0..=1000 {
+        let mut buf = [0; 1000];
+        xchacha20_xor(&COUNTED_KEY, &LONG_NONCE, &mut buf[..len]);
+        assert_eq!(rt; &buf[..len], &stream[..len], "at {len}");
+        assert_eq!(rt; &buf[len..], &[0; 1000][len..], "at {len}");
     }
 }

@@ -1,0 +1,36 @@
+use Rattle.std.proofs.Common.{[], ◌∷◌, ◌∙◌, sym, arith}
+use Rattle.std.proofs.lemmas.Simd.{pick_l_left}
+use Rattle.xchacha_core.specs.Rows.{block_state, byte_of_blocks}
+use Rattle.xchacha_core.proofs.Blocks.{block_more, sums, sums_wide}
+use Rattle.xchacha_core.proofs.Pieces.{xored_up_to-end, xored_up_to-start}
+use Rattle.xchacha_core.proofs.four_blocks.xor_four_blocks.Goals as goal
+
+pub returns : goal.returns
+returns c =
+    let start = c.args.start.now in
+    let counter = c.args.counter in
+    let text = c.args.piece.now in
+    let begun = c.begun.result in
+    let ended = c.ten_double_rounds.result in
+    let sum = sums ended begun in
+    let wide = sums_wide 16 ended begun c.ten_double_rounds.ensures.wide c.begun.ensures.wide in
+    let first =
+    block_more 16 0 counter start begun ended _ text text c.xor_rows.new.piece (omega arith) c.begun.ensures.wide c.ten_double_rounds.ensures.wide
+    (c.begun.ensures.states 0 (omega arith)) (c.ten_double_rounds.ensures.states 0 (omega arith)) (omega arith)
+    (pick_l_left 0 sum.0 sum.0 16 (0 ∷ 1 ∷ 2 ∷ 3 ∷ []) wide.0 tt) (pick_l_left 0 sum.1 sum.1 16 (0 ∷ 1 ∷ 2 ∷ 3 ∷ []) wide.1 tt) (pick_l_left 0 sum.2 sum.2 16 (0 ∷ 1 ∷ 2 ∷ 3 ∷ []) wide.2 tt) (pick_l_left 0 sum.3 sum.3 16 (0 ∷ 1 ∷ 2 ∷ 3 ∷ []) wide.3 tt)
+    (sym (xored_up_to-start (byte_of_blocks (block_state start 0) counter) text)) c.xor_rows.ensures in
+    let second =
+    block_more 16 1 counter start begun ended _ text _ c.xor_rows-2.new.piece (omega arith) c.begun.ensures.wide c.ten_double_rounds.ensures.wide
+    (c.begun.ensures.states 1 (omega arith)) (c.ten_double_rounds.ensures.states 1 (omega arith)) (omega arith)
+    (pick_l_left 0 sum.0 sum.0 16 (4 ∷ 5 ∷ 6 ∷ 7 ∷ []) wide.0 tt) (pick_l_left 0 sum.1 sum.1 16 (4 ∷ 5 ∷ 6 ∷ 7 ∷ []) wide.1 tt) (pick_l_left 0 sum.2 sum.2 16 (4 ∷ 5 ∷ 6 ∷ 7 ∷ []) wide.2 tt) (pick_l_left 0 sum.3 sum.3 16 (4 ∷ 5 ∷ 6 ∷ 7 ∷ []) wide.3 tt)
+    first c.xor_rows-2.ensures in
+    let third =
+    block_more 16 2 counter start begun ended _ text _ c.xor_rows-3.new.piece (omega arith) c.begun.ensures.wide c.ten_double_rounds.ensures.wide
+    (c.begun.ensures.states 2 (omega arith)) (c.ten_double_rounds.ensures.states 2 (omega arith)) (omega arith)
+    (pick_l_left 0 sum.0 sum.0 16 (8 ∷ 9 ∷ 10 ∷ 11 ∷ []) wide.0 tt) (pick_l_left 0 sum.1 sum.1 16 (8 ∷ 9 ∷ 10 ∷ 11 ∷ []) wide.1 tt) (pick_l_left 0 sum.2 sum.2 16 (8 ∷ 9 ∷ 10 ∷ 11 ∷ []) wide.2 tt) (pick_l_left 0 sum.3 sum.3 16 (8 ∷ 9 ∷ 10 ∷ 11 ∷ []) wide.3 tt)
+    second c.xor_rows-3.ensures in
+    block_more 16 3 counter start begun ended _ text _ c.xor_rows-4.new.piece (omega arith) c.begun.ensures.wide c.ten_double_rounds.ensures.wide
+    (c.begun.ensures.states 3 (omega arith)) (c.ten_double_rounds.ensures.states 3 (omega arith)) (omega arith)
+    (pick_l_left 0 sum.0 sum.0 16 (12 ∷ 13 ∷ 14 ∷ 15 ∷ []) wide.0 tt) (pick_l_left 0 sum.1 sum.1 16 (12 ∷ 13 ∷ 14 ∷ 15 ∷ []) wide.1 tt) (pick_l_left 0 sum.2 sum.2 16 (12 ∷ 13 ∷ 14 ∷ 15 ∷ []) wide.2 tt) (pick_l_left 0 sum.3 sum.3 16 (12 ∷ 13 ∷ 14 ∷ 15 ∷ []) wide.3 tt)
+    third c.xor_rows-4.ensures
+    ∙ xored_up_to-end (byte_of_blocks (block_state start 0) counter) text 256 (omega arith)

@@ -1,10 +1,12 @@
 -- The examples, computed.
-use Rattle.std.proofs.Common.{◌≡◌, ◌≢◌, ℕ, zero, suc, ◌+◌, ◌<◌, ◌≤◌, ◌^◌, inl, List, [], ◌∷◌, ◌++◌, length, get_or, drop, refl, sym, ◌∙◌, ap, arith, length-append}
+use Rattle.std.proofs.Common.{◌≡◌, ◌≢◌, ℕ, zero, suc, ◌+◌, ◌<◌, ◌≤◌, ◌^◌, inl, inr, List, [], ◌∷◌, ◌++◌, length, get_or, drop, refl, sym, ◌∙◌, ap, arith, length-append}
 use Rattle.std.specs.Prelude.{false, ◌||◌, take, replicate, slice_get, codes}
 use Rattle.std.specs.List.{flat_map, AllByRecursion}
 use Rattle.std.specs.Str.{IsAscii}
 use Rattle.std.proofs.lemmas.Str.{IsUtf8-from_ascii}
 use Rattle.std.proofs.lemmas.Str.Ascii.{IsAscii-nil}
+use Rattle.std.specs.Int.{w32, to_be_bytes}
+use Rattle.std.proofs.lemmas.List.{append-nil}
 use Rattle.std.proofs.lemmas.Option.{none-some}
 use Rattle.std.proofs.lemmas.Bool.{true≢false}
 use Rattle.definitions.specs.Spelling.{TextFits}
@@ -14,14 +16,16 @@ use Rattle.record_rules.specs.Records.{Event, Started, Local, Taken}
 use Rattle.record_rules.specs.Journal.{events_of, Sound}
 use Rattle.record_rules.proofs.Soundness.{empty_sound, Sound-push}
 use Rattle.log_rules.specs.Body.{HasEventBytes, IsBatch, event_bytes, body_bytes}
-use Rattle.log_rules.specs.Log.{batch_bytes, header_bytes, IsLogFront, StandsFor, DamagedAt, HoldsGoodBatch, payload_bytes}
-use Rattle.log_rules.specs.Examples.{ended_ls, ended_entry, started_empty, ls_log, WorkedBodies, WorkedFields, WorkedNewLog, WorkedFirstBatch}
+use Rattle.log_rules.specs.Log.{Form, current_form, old_form, HasNoHeader, batch_bytes, header_bytes, IsLogPrefix, StandsFor, DamagedAt, HoldsGoodBatch, payload_bytes}
+use Rattle.log_rules.specs.Examples.{new_log, ended_ls, ended_entry, started_empty, ls_log, WorkedBodies, WorkedFields, WorkedNewLog, WorkedFirstBatch}
+use Rattle.log_rules.specs.Opened.{opened_journal}
 use Rattle.log_rules.proofs.Fields.{number_4, body_apart}
+use Rattle.log_rules.proofs.Callers.{opened_events, opened_sound}
 
-pub empty_front : (host : ℕ) → host < 2 ^ 128 → IsLogFront (header_bytes host) host []
-empty_front host fits = record { host_fits = fits; batches = []; opened = tt; events_are = refl; bytes_are = refl }
+pub empty_prefix : (form : Form) (host : ℕ) → host < 2 ^ 128 → IsLogPrefix form (header_bytes form host) host []
+empty_prefix form host fits = record { host_fits = fits; batches = []; opened = tt; events_are = refl; bytes_are = refl }
 
-ascii_cons : (byte : ℕ) (bytes : List ℕ) → byte < 128 → IsAscii bytes → IsAscii (byte ∷ bytes)
+pub ascii_cons : (byte : ℕ) (bytes : List ℕ) → byte < 128 → IsAscii bytes → IsAscii (byte ∷ bytes)
 ascii_cons byte bytes below others zero = below
 ascii_cons byte bytes below others (suc k) = others k
 
@@ -55,13 +59,13 @@ ls_sound = Sound-push [] ls_entry 1 (empty_sound 1) (record {
   held_fits = refl;
 })
 
-ls_front : (gate : ℕ) → gate ≢ 0 → IsLogFront (header_bytes 1 ++ batch_bytes (record { gate = gate; events = Started ls ∷ [] })) 1 (Started ls ∷ [])
-ls_front gate opened = record { host_fits = omega arith; batches = record { gate = gate; events = Started ls ∷ [] } ∷ []; opened = (record { gate = opened; batch_events = ls_batch }, tt); events_are = refl; bytes_are = refl }
+pub ls_prefix : (gate : ℕ) → gate ≢ 0 → IsLogPrefix old_form (header_bytes old_form 1 ++ batch_bytes old_form 32 (record { gate = gate; events = Started ls ∷ [] })) 1 (Started ls ∷ [])
+ls_prefix gate opened = record { host_fits = omega arith; batches = record { gate = gate; events = Started ls ∷ [] } ∷ []; opened = (record { gate = opened; batch_events = ls_batch }, tt); events_are = refl; bytes_are = refl }
 
-pub ls_stands : (gate : ℕ) → gate ≢ 0 → StandsFor (ls_log gate) 1 (ls_entry ∷ [])
-ls_stands gate opened = record { front = header_bytes 1 ++ batch_bytes (record { gate = gate; events = Started ls ∷ [] }); behind = []; opened = ls_front gate opened; bytes_are = refl; sound = ls_sound }
+pub ls_stands : (gate : ℕ) → gate ≢ 0 → StandsFor old_form (ls_log old_form gate) 1 (ls_entry ∷ [])
+ls_stands gate opened = record { prefix = header_bytes old_form 1 ++ batch_bytes old_form 32 (record { gate = gate; events = Started ls ∷ [] }); behind = []; opened = ls_prefix gate opened; bytes_are = refl; sound = ls_sound }
 
-ended_batch : IsBatch (ended_ls ∷ [])
+pub ended_batch : IsBatch (ended_ls ∷ [])
 ended_batch = record {
   some = omega arith;
   few = omega arith;
@@ -78,7 +82,7 @@ ended_batch = record {
     tag_text : TextFits (codes "history")
     tag_text = record { utf8 = IsUtf8-from_ascii (codes "history") (ascii_cons 0x68 (codes "istory") (omega arith) (ascii_cons 0x69 (codes "story") (omega arith) (ascii_cons 0x73 (codes "tory") (omega arith) (ascii_cons 0x74 (codes "ory") (omega arith) (ascii_cons 0x6f (codes "ry") (omega arith) (ascii_cons 0x72 (codes "y") (omega arith) (ascii_cons 0x79 [] (omega arith) IsAscii-nil))))))); short = omega arith }
 
-ended_sound : Sound (ls_entry ∷ ended_entry ∷ []) 1
+pub ended_sound : Sound (ls_entry ∷ ended_entry ∷ []) 1
 ended_sound = Sound-push (ls_entry ∷ []) ended_entry 1 ls_sound (record {
   numbered = refl;
   made_here = refl;
@@ -88,8 +92,8 @@ ended_sound = Sound-push (ls_entry ∷ []) ended_entry 1 ls_sound (record {
   held_fits = refl;
 })
 
-ended_front : IsLogFront (header_bytes 1 ++ batch_bytes (record { gate = 1; events = Started ls ∷ [] }) ++ batch_bytes (record { gate = 7; events = ended_ls ∷ [] })) 1 (Started ls ∷ ended_ls ∷ [])
-ended_front = record {
+ended_prefix : IsLogPrefix old_form (header_bytes old_form 1 ++ batch_bytes old_form 32 (record { gate = 1; events = Started ls ∷ [] }) ++ batch_bytes old_form 90 (record { gate = 7; events = ended_ls ∷ [] })) 1 (Started ls ∷ ended_ls ∷ [])
+ended_prefix = record {
   host_fits = omega arith;
   batches = record { gate = 1; events = Started ls ∷ [] } ∷ record { gate = 7; events = ended_ls ∷ [] } ∷ [];
   opened = (record { gate = λ e. absurd (omega arith); batch_events = ls_batch }, (record { gate = λ e. absurd (omega arith); batch_events = ended_batch }, tt));
@@ -97,19 +101,23 @@ ended_front = record {
   bytes_are = refl;
 }
 
+-- without a digest the length and the body alone stand behind the gate
+plain : (at : ℕ) (rest : List ℕ) (host : ℕ) (before : List Event) (good : HoldsGoodBatch old_form at rest host before) → rest ≡ (to_be_bytes w32 (length (body_bytes good.events)) ++ body_bytes good.events) ++ good.gate ∷ good.behind
+plain at rest host before good = good.bytes_are ∙ ap (λ (l : List ℕ). (to_be_bytes w32 (length (body_bytes good.events)) ++ l) ++ good.gate ∷ good.behind) (append-nil (body_bytes good.events))
+
 -- a body of 54 bytes and a gate don't fit into 54 bytes
-too_long : HoldsGoodBatch (0 ∷ 0 ∷ 0 ∷ 0x36 ∷ drop 37 (ls_log 1)) 1 [] → ⊥
+too_long : HoldsGoodBatch old_form 32 (0 ∷ 0 ∷ 0 ∷ 0x36 ∷ drop 37 (ls_log old_form 1)) 1 [] → ⊥
 too_long good =
-    let numbers = number_4 0x36 (length (body_bytes good.events)) (drop 37 (ls_log 1)) (body_bytes good.events ++ good.gate ∷ good.behind) (omega arith) good.batch.body good.bytes_are in
+    let numbers = number_4 0x36 (length (body_bytes good.events)) (drop 37 (ls_log old_form 1)) (body_bytes good.events ++ good.gate ∷ good.behind) (omega arith) good.batch.body (plain _ _ _ _ good) in
     let long : 54 ≡ length (body_bytes good.events) = numbers.0 in
     let all : ◌≡◌ {A = ℕ} 54 (length (body_bytes good.events ++ good.gate ∷ good.behind)) = ap (λ (l : List ℕ). length l) numbers.1 in
     let parts : length (body_bytes good.events ++ good.gate ∷ good.behind) ≡ length (body_bytes good.events) + (1 + length good.behind) = length-append (body_bytes good.events) (good.gate ∷ good.behind) ∙ omega arith in
     omega (arith, long, all, parts)
 
 -- 53 bytes and no gate don't hold a body of 53 bytes and a gate
-no_next_gate : HoldsGoodBatch (take 57 (drop 33 (ls_log 1))) 1 [] → ⊥
+no_next_gate : HoldsGoodBatch old_form 32 (take 57 (drop 33 (ls_log old_form 1))) 1 [] → ⊥
 no_next_gate good =
-    let numbers = number_4 0x35 (length (body_bytes good.events)) (take 53 (drop 37 (ls_log 1))) (body_bytes good.events ++ good.gate ∷ good.behind) (omega arith) good.batch.body good.bytes_are in
+    let numbers = number_4 0x35 (length (body_bytes good.events)) (take 53 (drop 37 (ls_log old_form 1))) (body_bytes good.events ++ good.gate ∷ good.behind) (omega arith) good.batch.body (plain _ _ _ _ good) in
     let long : 53 ≡ length (body_bytes good.events) = numbers.0 in
     let all : ◌≡◌ {A = ℕ} 53 (length (body_bytes good.events ++ good.gate ∷ good.behind)) = ap (λ (l : List ℕ). length l) numbers.1 in
     let parts : length (body_bytes good.events ++ good.gate ∷ good.behind) ≡ length (body_bytes good.events) + (1 + length good.behind) = length-append (body_bytes good.events) (good.gate ∷ good.behind) ∙ omega arith in
@@ -127,17 +135,17 @@ no_kind_9 events rest more few e =
     by_events (Local closes r ∷ events) rest more count e = let h : ◌≡◌ {A = ℕ} 9 2 = ap (λ (l : List ℕ). get_or l 0 0) e in omega arith
     by_events (Taken owner r ∷ events) rest more count e = let h : ◌≡◌ {A = ℕ} 9 3 = ap (λ (l : List ℕ). get_or l 0 0) e in omega arith
 
-no_such_event : HoldsGoodBatch (take 8 (drop 33 (ls_log 1)) ++ 9 ∷ drop 42 (ls_log 1)) 1 [] → ⊥
+no_such_event : HoldsGoodBatch old_form 32 (take 8 (drop 33 (ls_log old_form 1)) ++ 9 ∷ drop 42 (ls_log old_form 1)) 1 [] → ⊥
 no_such_event good =
     let few : length good.events < 2 ^ 32 = let h = good.batch.few in omega arith in
-    no_kind_9 good.events (drop 42 (ls_log 1)) (good.gate ∷ good.behind) few (ap (λ (l : List ℕ). drop 4 l) good.bytes_are)
+    no_kind_9 good.events (drop 42 (ls_log old_form 1)) (good.gate ∷ good.behind) few (ap (λ (l : List ℕ). drop 4 l) (plain _ _ _ _ good))
 
 -- `ls` can't be started twice with one id
-not_twice : HoldsGoodBatch (drop 33 (ls_log 1)) 1 (Started ls ∷ []) → ⊥
+not_twice : HoldsGoodBatch old_form 90 (drop 33 (ls_log old_form 1)) 1 (Started ls ∷ []) → ⊥
 not_twice good =
-    let same = body_apart (Started ls ∷ []) good.events (0 ∷ []) (good.gate ∷ good.behind) ls_batch good.batch (ap (λ (l : List ℕ). drop 4 l) good.bytes_are) in
-    let twice : events_of good.sound.journal ≡ Started ls ∷ Started ls ∷ [] = good.sound.events_are ∙ ap (λ (events : List Event). Started ls ∷ events) (sym same.0) in
-    good.sound.sound.started_apart 0 1 ls ls (omega arith) (ap (λ (events : List Event). slice_get events 0) twice) (ap (λ (events : List Event). slice_get events 1) twice) refl
+    let same = body_apart (Started ls ∷ []) good.events (0 ∷ []) (good.gate ∷ good.behind) ls_batch good.batch (ap (λ (l : List ℕ). drop 4 l) (plain _ _ _ _ good)) in
+    let twice : events_of (opened_journal (Started ls ∷ good.events)) ≡ Started ls ∷ Started ls ∷ [] = opened_events (Started ls ∷ good.events) ∙ ap (λ (events : List Event). Started ls ∷ events) (sym same.0) in
+    good.sound.started_apart 0 1 ls ls (omega arith) (ap (λ (events : List Event). slice_get events 0) twice) (ap (λ (events : List Event). slice_get events 1) twice) refl
 
 empty_text : TextFits []
 empty_text = record { utf8 = IsUtf8-from_ascii [] IsAscii-nil; short = omega arith }
@@ -183,11 +191,28 @@ fields = record {
   wrapped_above = λ owner r other has. other has.sealed_record.wrapped;
 }
 
+-- no header where the eighth byte is another
+other_digit : (form : Form) (bytes : List ℕ) (digit : ℕ) → get_or (take 32 bytes) 7 0 ≡ digit → digit ≢ form.digit → HasNoHeader form bytes
+other_digit form bytes digit is differ = inr (λ host fits e. differ (sym is ∙ ap (λ (l : List ℕ). get_or l 7 0) e))
+
+-- a log of neither form
+abbrev third_log : List ℕ
+third_log = take 7 (new_log current_form 1) ++ 0x33 ∷ drop 8 (new_log current_form 1)
+
+three_not_two : ◌≢◌ {A = ℕ} 0x33 0x32
+three_not_two e = absurd (omega arith)
+
+three_not_one : ◌≢◌ {A = ℕ} 0x33 0x31
+three_not_one e = absurd (omega arith)
+
+two_not_one : ◌≢◌ {A = ℕ} 0x32 0x31
+two_not_one e = absurd (omega arith)
+
 pub new_store : WorkedNewLog
 new_store = record {
   bytes = refl;
   count = refl;
-  stands = record { front = header_bytes first_id; behind = []; opened = empty_front first_id (omega arith); bytes_are = refl; sound = empty_sound first_id };
+  stands = record { prefix = header_bytes current_form first_id; behind = []; opened = empty_prefix current_form first_id (omega arith); bytes_are = refl; sound = empty_sound first_id };
   fault = refl;
   no_magic = refl;
   other_magic = refl;
@@ -196,18 +221,23 @@ new_store = record {
   other_zeros = refl;
   no_gate_at_all = inl (omega arith);
   no_gate = refl;
+  old = (1, record { long = omega arith; host_fits = omega arith; header = refl });
+  not_old = other_digit old_form (new_log current_form 1) 0x32 refl two_not_one;
+  old_magic = refl;
+  neither = (inl (omega arith), inl (omega arith));
+  other_format = (other_digit current_form third_log 0x33 refl three_not_two, other_digit old_form third_log 0x33 refl three_not_one);
 }
 
 -- damaged at the first batch behind an open gate 1
-damaged_at_first : (rest : List ℕ) → (HoldsGoodBatch rest 1 [] → ⊥) → DamagedAt (header_bytes 1 ++ 1 ∷ rest) 32
+damaged_at_first : (rest : List ℕ) → (HoldsGoodBatch old_form 32 rest 1 [] → ⊥) → DamagedAt old_form (header_bytes old_form 1 ++ 1 ∷ rest) 32
 damaged_at_first rest bad = record {
   host = 1;
   before = [];
-  front = header_bytes 1;
+  prefix = header_bytes old_form 1;
   gate = 1;
   rest = rest;
-  opened = empty_front 1 (omega arith);
-  sound = record { journal = []; events_are = refl; sound = empty_sound 1 };
+  opened = empty_prefix old_form 1 (omega arith);
+  sound = empty_sound 1;
   bytes_are = refl;
   offset_is = refl;
   gate_open = λ e. absurd (omega arith);
@@ -224,19 +254,19 @@ first_batch = record {
   stands = ls_stands 1 (λ e. absurd (omega arith));
   other_gate = refl;
   stands_too = ls_stands 7 (λ e. absurd (omega arith));
-  stands_closed = record { front = header_bytes 1; behind = payload_bytes (Started ls ∷ []) ++ 0 ∷ []; opened = empty_front 1 (omega arith); bytes_are = refl; sound = empty_sound 1 };
-  stands_ended = record { front = header_bytes 1 ++ batch_bytes (record { gate = 1; events = Started ls ∷ [] }) ++ batch_bytes (record { gate = 7; events = ended_ls ∷ [] }); behind = []; opened = ended_front; bytes_are = refl; sound = ended_sound };
-  damaged = damaged_at_first (0 ∷ 0 ∷ 0 ∷ 0x36 ∷ drop 37 (ls_log 1)) too_long;
-  cut = damaged_at_first (take 57 (drop 33 (ls_log 1))) no_next_gate;
-  unknown_kind = damaged_at_first (take 8 (drop 33 (ls_log 1)) ++ 9 ∷ drop 42 (ls_log 1)) no_such_event;
+  stands_closed = record { prefix = header_bytes old_form 1; behind = payload_bytes old_form 32 (Started ls ∷ []) ++ 0 ∷ []; opened = empty_prefix old_form 1 (omega arith); bytes_are = refl; sound = empty_sound 1 };
+  stands_ended = record { prefix = header_bytes old_form 1 ++ batch_bytes old_form 32 (record { gate = 1; events = Started ls ∷ [] }) ++ batch_bytes old_form 90 (record { gate = 7; events = ended_ls ∷ [] }); behind = []; opened = ended_prefix; bytes_are = refl; sound = ended_sound };
+  damaged = damaged_at_first (0 ∷ 0 ∷ 0 ∷ 0x36 ∷ drop 37 (ls_log old_form 1)) too_long;
+  cut = damaged_at_first (take 57 (drop 33 (ls_log old_form 1))) no_next_gate;
+  unknown_kind = damaged_at_first (take 8 (drop 33 (ls_log old_form 1)) ++ 9 ∷ drop 42 (ls_log old_form 1)) no_such_event;
   repeated = record {
     host = 1;
     before = Started ls ∷ [];
-    front = header_bytes 1 ++ batch_bytes (record { gate = 1; events = Started ls ∷ [] });
+    prefix = header_bytes old_form 1 ++ batch_bytes old_form 32 (record { gate = 1; events = Started ls ∷ [] });
     gate = 1;
-    rest = drop 33 (ls_log 1);
-    opened = ls_front 1 (λ e. absurd (omega arith));
-    sound = record { journal = ls_entry ∷ []; events_are = refl; sound = ls_sound };
+    rest = drop 33 (ls_log old_form 1);
+    opened = ls_prefix 1 (λ e. absurd (omega arith));
+    sound = opened_sound (ls_entry ∷ []) (Started ls ∷ []) 1 refl ls_sound;
     bytes_are = refl;
     offset_is = refl;
     gate_open = λ e. absurd (omega arith);

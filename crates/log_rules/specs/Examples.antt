@@ -1,5 +1,5 @@
--- Worked examples: a new log, and the log of one started command, byte by byte.
-use Rattle.std.specs.Prelude.{◌≡◌, ℕ, ◌≤◌, List, [], ◌∷◌, ◌++◌, length, take, drop, replicate, slice_get, codes, Option, Some, None}
+-- Worked examples: a new log, and the log of one started command, byte by byte, in both forms.
+use Rattle.std.specs.Prelude.{◌≡◌, ℕ, ◌≤◌, List, [], ◌∷◌, ◌++◌, length, take, drop, replicate, slice_get, codes, Option, Some, None, Ok}
 use Rattle.std.specs.List.{AllByRecursion}
 use Rattle.std.specs.Str.{IsUtf8}
 use Rattle.definitions.specs.Spelling.{TextFits}
@@ -7,16 +7,17 @@ use Rattle.definitions.specs.Journal.{StartedRecord}
 use Rattle.definitions.specs.Examples.{first_id, ls}
 use Rattle.record_rules.specs.Examples.{ls_entry}
 use Rattle.record_rules.specs.Records.{SealedRecord, Entry, Event, Started, Local, Taken}
+use Rattle.log_rules.specs.Reading.{body_at, BodyWrongAt}
 use Rattle.log_rules.specs.Body.{HasEventBytes, event_bytes, body_bytes, IsBatch}
-use Rattle.log_rules.specs.Log.{NotALog, header_bytes, batch_bytes, StandsFor, DamagedAt, header_fault}
+use Rattle.log_rules.specs.Log.{Form, batch_digest, current_form, old_form, HasNoHeader, NotALog, IsOldLog, NotOld, header_bytes, batch_bytes, StandsFor, DamagedAt, header_fault}
 
 -- the log of a new store
-abbrev pub new_log : ℕ → List ℕ
-new_log host = header_bytes host ++ 0 ∷ []
+abbrev pub new_log : Form → ℕ → List ℕ
+new_log form host = header_bytes form host ++ 0 ∷ []
 
 -- that log with one batch, in which `ls` was started, behind this gate
-abbrev pub ls_log : (gate : ℕ) → List ℕ
-ls_log gate = header_bytes 1 ++ batch_bytes (record { gate = gate; events = Started ls ∷ [] }) ++ 0 ∷ []
+abbrev pub ls_log : Form → (gate : ℕ) → List ℕ
+ls_log form gate = header_bytes form 1 ++ batch_bytes form 32 (record { gate = gate; events = Started ls ∷ [] }) ++ 0 ∷ []
 
 -- the record of this host in which `ls` ended
 abbrev pub ended_ls : Event
@@ -27,11 +28,11 @@ ended_entry = record { caller = record { number = 1; call = 2; settled_for = 0 }
 
 -- the log in which that came in a second batch, behind another open gate
 abbrev pub ended_log : List ℕ
-ended_log = header_bytes 1 ++ batch_bytes (record { gate = 1; events = Started ls ∷ [] }) ++ batch_bytes (record { gate = 7; events = ended_ls ∷ [] }) ++ 0 ∷ []
+ended_log = header_bytes old_form 1 ++ batch_bytes old_form 32 (record { gate = 1; events = Started ls ∷ [] }) ++ batch_bytes old_form 90 (record { gate = 7; events = ended_ls ∷ [] }) ++ 0 ∷ []
 
 -- the log of `ls` with an open gate and another length in bytes 33 to 36
 abbrev pub ls_log_with_length : List ℕ → List ℕ
-ls_log_with_length four = take 33 (ls_log 1) ++ four ++ drop 37 (ls_log 1)
+ls_log_with_length four = take 33 (ls_log old_form 1) ++ four ++ drop 37 (ls_log old_form 1)
 
 -- a started command with empty texts
 abbrev pub started_empty : Event
@@ -87,36 +88,77 @@ pub record WorkedFields : Type 0 where
   pub wrapped_above : (owner : ℕ) (r : SealedRecord) → (TextFits r.wrapped → ⊥) → HasEventBytes (Taken owner r) → ⊥
 
 pub record WorkedNewLog : Type 0 where
-  pub bytes : new_log first_id ≡ 0x41 ∷ 0x54 ∷ 0x55 ∷ 0x4c ∷ 0x4f ∷ 0x47 ∷ 0x30 ∷ 0x31 ∷ 0x01 ∷ 0x8b ∷ 0xcf ∷ 0xe5 ∷ 0x68 ∷ 0x00 ∷ 0x70 ∷ 0x01 ∷ 0x82 ∷ 0x03 ∷ 0x04 ∷ 0x05 ∷ 0x06 ∷ 0x07 ∷ 0x08 ∷ 0x09 ∷ 0 ∷ 0 ∷ 0 ∷ 0 ∷ 0 ∷ 0 ∷ 0 ∷ 0 ∷ 0 ∷ []
-  pub count : length (new_log first_id) ≡ 33
-  pub stands : StandsFor (new_log first_id) first_id []
-  pub fault : header_fault (new_log first_id) ≡ None
+  pub bytes : new_log current_form first_id ≡ 0x41 ∷ 0x54 ∷ 0x55 ∷ 0x4c ∷ 0x4f ∷ 0x47 ∷ 0x30 ∷ 0x32 ∷ 0x01 ∷ 0x8b ∷ 0xcf ∷ 0xe5 ∷ 0x68 ∷ 0x00 ∷ 0x70 ∷ 0x01 ∷ 0x82 ∷ 0x03 ∷ 0x04 ∷ 0x05 ∷ 0x06 ∷ 0x07 ∷ 0x08 ∷ 0x09 ∷ 0 ∷ 0 ∷ 0 ∷ 0 ∷ 0 ∷ 0 ∷ 0 ∷ 0 ∷ 0 ∷ []
+  pub count : length (new_log current_form first_id) ≡ 33
+  pub stands : StandsFor current_form (new_log current_form first_id) first_id []
+  pub fault : header_fault current_form (new_log current_form first_id) ≡ None
   -- the places of what can't be read
-  pub no_magic : header_fault [] ≡ Some 0
-  pub other_magic : header_fault (0x42 ∷ drop 1 (new_log 1)) ≡ Some 0
-  pub cut_host : header_fault (take 23 (new_log 1)) ≡ Some 8
-  pub cut_zeros : header_fault (take 31 (new_log 1)) ≡ Some 24
-  pub other_zeros : header_fault (take 31 (new_log 1) ++ 1 ∷ 0 ∷ []) ≡ Some 24
-  pub no_gate_at_all : NotALog (take 32 (new_log 1))
-  pub no_gate : header_fault (take 32 (new_log 1)) ≡ Some 32
+  pub no_magic : header_fault current_form [] ≡ Some 0
+  pub other_magic : header_fault current_form (0x42 ∷ drop 1 (new_log current_form 1)) ≡ Some 0
+  pub cut_host : header_fault current_form (take 23 (new_log current_form 1)) ≡ Some 8
+  pub cut_zeros : header_fault current_form (take 31 (new_log current_form 1)) ≡ Some 24
+  pub other_zeros : header_fault current_form (take 31 (new_log current_form 1) ++ 1 ∷ 0 ∷ []) ≡ Some 24
+  pub no_gate_at_all : HasNoHeader current_form (take 32 (new_log current_form 1))
+  pub no_gate : header_fault current_form (take 32 (new_log current_form 1)) ≡ Some 32
+  -- an old log is no log of the form that is written, and the other way round; bytes of neither are not a log
+  pub old : IsOldLog (new_log old_form 1)
+  pub not_old : NotOld (new_log current_form 1)
+  pub old_magic : header_fault current_form (new_log old_form 1) ≡ Some 0
+  pub neither : NotALog (take 32 (new_log current_form 1))
+  pub other_format : NotALog (take 7 (new_log current_form 1) ++ 0x33 ∷ drop 8 (new_log current_form 1))
 
 pub record WorkedFirstBatch : Type 0 where
-  pub count : length (ls_log 1) ≡ 91
-  pub gate : slice_get (ls_log 1) 32 ≡ Some 1
-  pub length_bytes : take 4 (drop 33 (ls_log 1)) ≡ 0 ∷ 0 ∷ 0 ∷ 0x35 ∷ []
-  pub body : take 53 (drop 37 (ls_log 1)) ≡ 0 ∷ 0 ∷ 0 ∷ 1 ∷ 1 ∷ 0x01 ∷ 0x8b ∷ 0xcf ∷ 0xe5 ∷ 0x68 ∷ 0x00 ∷ 0x70 ∷ 0x01 ∷ 0x82 ∷ 0x03 ∷ 0x04 ∷ 0x05 ∷ 0x06 ∷ 0x07 ∷ 0x08 ∷ 0x09 ∷ 0x17 ∷ 0x97 ∷ 0x9c ∷ 0xfe ∷ 0x36 ∷ 0x2a ∷ 0x00 ∷ 0x00 ∷ 0 ∷ 0 ∷ 0 ∷ 2 ∷ 0x6c ∷ 0x73 ∷ 0 ∷ 0 ∷ 0 ∷ 1 ∷ 0x2f ∷ 0 ∷ 0 ∷ 0 ∷ 2 ∷ 0x73 ∷ 0x31 ∷ 0 ∷ 0 ∷ 0 ∷ 3 ∷ 0x68 ∷ 0x3a ∷ 0x75 ∷ []
-  pub closed : slice_get (ls_log 1) 90 ≡ Some 0
-  pub stands : StandsFor (ls_log 1) 1 (ls_entry ∷ [])
+  pub count : length (ls_log old_form 1) ≡ 91
+  pub gate : slice_get (ls_log old_form 1) 32 ≡ Some 1
+  pub length_bytes : take 4 (drop 33 (ls_log old_form 1)) ≡ 0 ∷ 0 ∷ 0 ∷ 0x35 ∷ []
+  pub body : take 53 (drop 37 (ls_log old_form 1)) ≡ 0 ∷ 0 ∷ 0 ∷ 1 ∷ 1 ∷ 0x01 ∷ 0x8b ∷ 0xcf ∷ 0xe5 ∷ 0x68 ∷ 0x00 ∷ 0x70 ∷ 0x01 ∷ 0x82 ∷ 0x03 ∷ 0x04 ∷ 0x05 ∷ 0x06 ∷ 0x07 ∷ 0x08 ∷ 0x09 ∷ 0x17 ∷ 0x97 ∷ 0x9c ∷ 0xfe ∷ 0x36 ∷ 0x2a ∷ 0x00 ∷ 0x00 ∷ 0 ∷ 0 ∷ 0 ∷ 2 ∷ 0x6c ∷ 0x73 ∷ 0 ∷ 0 ∷ 0 ∷ 1 ∷ 0x2f ∷ 0 ∷ 0 ∷ 0 ∷ 2 ∷ 0x73 ∷ 0x31 ∷ 0 ∷ 0 ∷ 0 ∷ 3 ∷ 0x68 ∷ 0x3a ∷ 0x75 ∷ []
+  pub closed : slice_get (ls_log old_form 1) 90 ≡ Some 0
+  pub stands : StandsFor old_form (ls_log old_form 1) 1 (ls_entry ∷ [])
   -- with another open gate it is the same journal, with the gate closed the journal without the batch
-  pub other_gate : take 32 (ls_log 1) ++ 7 ∷ drop 33 (ls_log 1) ≡ ls_log 7
-  pub stands_too : StandsFor (ls_log 7) 1 (ls_entry ∷ [])
-  pub stands_closed : StandsFor (ls_log 0) 1 []
+  pub other_gate : take 32 (ls_log old_form 1) ++ 7 ∷ drop 33 (ls_log old_form 1) ≡ ls_log old_form 7
+  pub stands_too : StandsFor old_form (ls_log old_form 7) 1 (ls_entry ∷ [])
+  pub stands_closed : StandsFor old_form (ls_log old_form 0) 1 []
   -- with a second batch the journal has its events behind those of the first
-  pub stands_ended : StandsFor ended_log 1 (ls_entry ∷ ended_entry ∷ [])
+  pub stands_ended : StandsFor old_form ended_log 1 (ls_entry ∷ ended_entry ∷ [])
   -- with its length one more it is damaged at the gate
-  pub damaged : DamagedAt (ls_log_with_length (0 ∷ 0 ∷ 0 ∷ 0x36 ∷ [])) 32
+  pub damaged : DamagedAt old_form (ls_log_with_length (0 ∷ 0 ∷ 0 ∷ 0x36 ∷ [])) 32
   -- and so it is where the last byte, the next gate, is missing, and where its event is of a kind 9
-  pub cut : DamagedAt (take 90 (ls_log 1)) 32
-  pub unknown_kind : DamagedAt (take 41 (ls_log 1) ++ 9 ∷ drop 42 (ls_log 1)) 32
+  pub cut : DamagedAt old_form (take 90 (ls_log old_form 1)) 32
+  pub unknown_kind : DamagedAt old_form (take 41 (ls_log old_form 1) ++ 9 ∷ drop 42 (ls_log old_form 1)) 32
   -- with the batch a second time it is damaged at that one, since no two started commands have one id
-  pub repeated : DamagedAt (take 90 (ls_log 1) ++ drop 32 (ls_log 1)) 90
+  pub repeated : DamagedAt old_form (take 90 (ls_log old_form 1) ++ drop 32 (ls_log old_form 1)) 90
+
+-- the body of that batch, and the same with an `m` in place of the `l`, so that the command is `ms`
+abbrev pub ls_body : List ℕ
+ls_body = take 53 (drop 37 (ls_log old_form 1))
+
+abbrev pub ms_body : List ℕ
+ms_body = take 33 ls_body ++ 0x6d ∷ drop 34 ls_body
+
+-- their digests, where the batch's gate stands at 32
+abbrev pub ls_digest : List ℕ
+ls_digest = 0xf7 ∷ 0xdf ∷ 0x43 ∷ 0x2f ∷ 0x11 ∷ 0xae ∷ 0x16 ∷ 0x44 ∷ 0xa5 ∷ 0xc2 ∷ 0xb6 ∷ 0x25 ∷ 0xe7 ∷ 0x4d ∷ 0xcf ∷ 0x75 ∷ []
+
+abbrev pub ms_digest : List ℕ
+ms_digest = 0x80 ∷ 0x7a ∷ 0x83 ∷ 0xf7 ∷ 0xf6 ∷ 0x04 ∷ 0xc1 ∷ 0xf8 ∷ 0x1d ∷ 0xe3 ∷ 0x4e ∷ 0xa0 ∷ 0x8f ∷ 0x1f ∷ 0x42 ∷ 0xb4 ∷ []
+
+pub record WorkedDigests : Type 0 where
+  pub digest : batch_digest 32 ls_body ≡ ls_digest
+  pub other_digest : batch_digest 32 ms_body ≡ ms_digest
+  -- behind the old log's 90 bytes the digest stands, and then the closed gate
+  pub count : length (ls_log current_form 1) ≡ 107
+  pub bytes : ls_log current_form 1 ≡ header_bytes current_form 1 ++ 1 ∷ 0 ∷ 0 ∷ 0 ∷ 0x35 ∷ (ls_body ++ ls_digest ++ 0 ∷ [])
+  pub stands : StandsFor current_form (ls_log current_form 1) 1 (ls_entry ∷ [])
+  -- with one byte changed it is damaged, though the body is one of a started command
+  pub changed : DamagedAt current_form (take 70 (ls_log current_form 1) ++ 0x6d ∷ drop 71 (ls_log current_form 1)) 32
+
+-- the first field that can't be read: of the body of `ls`, and of it with other bytes
+pub record WorkedBodyFaults : Type 0 where
+  pub whole : body_at ls_body ≡ Ok (Started ls ∷ [])
+  -- without its last byte the last text passes the body's end
+  pub cut : BodyWrongAt (take 52 ls_body) 46
+  pub nothing : BodyWrongAt [] 0
+  pub no_events : BodyWrongAt (0 ∷ 0 ∷ 0 ∷ 0 ∷ drop 4 ls_body) 0
+  pub too_many : BodyWrongAt (0 ∷ 0 ∷ 0 ∷ 101 ∷ drop 4 ls_body) 0
+  pub kind : BodyWrongAt (take 4 ls_body ++ 9 ∷ drop 5 ls_body) 4
+  pub long_text : BodyWrongAt (take 29 ls_body ++ 0xff ∷ 0xff ∷ 0xff ∷ 0xff ∷ drop 33 ls_body) 29

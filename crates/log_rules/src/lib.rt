@@ -1,17 +1,24 @@
 //! The words for a log file: what bytes spell which events (`Body`), what bytes stand for which journal,
-//! and which are no log or damaged at an offset (`Log`); and the laws that hold of these words alone.
+//! and which are no log or damaged at an offset (`Log`), how a body is read, and where it can't be
+//! (`Reading`), where a batch and an event stand (`Spots`), what
+//! the entries of a log that is opened are (`Opened`); and the laws that hold of these words alone.
 //!
-//! A log is a header that names the host, then batches of 1 to 100 events, each behind a gate byte and
-//! the length of its body, and last a gate byte 0, which is closed. Any other gate byte is open. Behind
-//! the closed gate any bytes may stand. So a batch is added by writing it behind the closed gate and
-//! opening that gate: one byte decides whether it counts.
+//! A log is a header that names the host, then batches of 1 to 100 events, and last a gate byte 0, which
+//! is closed. A batch is a gate byte that isn't 0, which is open, the length of the body, the body, and its
+//! digest. Behind the closed gate any bytes may stand. So a batch is added by writing it behind the closed
+//! gate and opening that gate: one byte decides whether it counts. That a crash leaves one of two journals
+//! rests on gates alone; digests show bytes that were changed.
+//!
+//! The words speak of any form of a log, which is a digit in the header and a digest. There are two: the
+//! current one, and the old one, whose batches have no digests, and which is only read.
 //!
 //! Each function has an empty body, and its contract is the law that its name says. The crate stands on
-//! the words for journals, `record_rules`.
+//! the words for journals, `record_rules`, and for the digest, `blake2b_core`; a number in a file is read
+//! as `byteorder` reads it.
 #![tactic(auto)]
 
-ghost use Rattle.log_rules.specs.Laws.{OneEventBegins, OneBodyBegins, OneJournalStands, OpenGateAdds, ClosedGateHides, StandingIsALog, StandingIsWhole, DamagedIsALog, DamagedAtOne, SoundByEvents, FaultyHeader, StandingHeader};
-ghost use Rattle.log_rules.specs.Examples.{WorkedBodies, WorkedFields, WorkedNewLog, WorkedFirstBatch};
+ghost use Rattle.log_rules.specs.Laws.{OneEventBegins, OneBodyBegins, OneJournalStands, OpenGateAdds, ClosedGateHides, StandingIsALog, StandingIsWhole, DamagedIsALog, DamagedAtOne, FaultyHeader, StandingHeader, StandingHasHeader, DamagedHasHeader, ReadHeader, FormsApart, OneBatchAt, OneEventAt, LongerKeepsBatch, EventsWeighTheirBytes, LightEventsAreABatch, UnsoundIsDamaged, ReadBody, BodyIsRead, EventStaysRead, EventStaysWrong, WrongIsNoBody};
+ghost use Rattle.log_rules.specs.Examples.{WorkedBodies, WorkedFields, WorkedNewLog, WorkedFirstBatch, WorkedDigests, WorkedBodyFaults};
 
 /// Bytes begin with the spelling of at most one event.
 pub fn one_event_begins()
@@ -28,7 +35,7 @@ pub fn one_journal_stands()
     ensures { OneJournalStands }
 {}
 
-/// Behind the front of a journal's log, one more sound batch with its gate open and a closed gate: the
+/// Behind the prefix of a journal's log, one more sound batch with its gate open and a closed gate: the
 /// bytes stand for the journal with that batch.
 pub fn open_gate_adds()
     ensures { OpenGateAdds }
@@ -60,11 +67,6 @@ pub fn damaged_at_one()
     ensures { DamagedAtOne }
 {}
 
-/// Whether a journal is sound depends on what its entries say alone, and not on whose calls they came by.
-pub fn sound_by_events()
-    ensures { SoundByEvents }
-{}
-
 /// Where an item of the header can't be read, the bytes are no log.
 pub fn faulty_header()
     ensures { FaultyHeader }
@@ -73,6 +75,82 @@ pub fn faulty_header()
 /// The header of bytes that stand for a journal can be read.
 pub fn standing_header()
     ensures { StandingHeader }
+{}
+
+/// Bytes that stand for a journal of a host have that host's header.
+pub fn standing_has_header()
+    ensures { StandingHasHeader }
+{}
+
+/// Bytes that are damaged have the header of the host of the batches before the damaged one.
+pub fn damaged_has_header()
+    ensures { DamagedHasHeader }
+{}
+
+/// Where each item of the header can be read, the bytes have the header of the host that the 16 bytes
+/// behind the magic are.
+pub fn read_header()
+    ensures { ReadHeader }
+{}
+
+/// Bytes with a header in one form have none in a form with another digit.
+pub fn forms_apart()
+    ensures { FormsApart }
+{}
+
+/// At a spot stands at most one batch.
+pub fn one_batch_at()
+    ensures { OneBatchAt }
+{}
+
+/// At a place in the batch of a spot stands at most one event.
+pub fn one_event_at()
+    ensures { OneEventAt }
+{}
+
+/// A log that got longer keeps its spots.
+pub fn longer_keeps_batch()
+    ensures { LongerKeepsBatch }
+{}
+
+/// An event weighs no less than it has bytes.
+pub fn events_weigh_their_bytes()
+    ensures { EventsWeighTheirBytes }
+{}
+
+/// Up to 100 events that weigh less than 2^32 - 4 bytes together are a batch, as those of a page.
+pub fn light_events_are_a_batch()
+    ensures { LightEventsAreABatch }
+{}
+
+/// Behind good batches one whose events may not follow them is damaged, though its bytes are whole.
+pub fn unsound_is_damaged()
+    ensures { UnsoundIsDamaged }
+{}
+
+/// What is read of bytes is a batch whose body they are.
+pub fn read_body()
+    ensures { ReadBody }
+{}
+
+/// Each batch is read from its body.
+pub fn body_is_read()
+    ensures { BodyIsRead }
+{}
+
+/// While a body comes in pieces, an event that was read from the first bytes is read with more bytes too.
+pub fn event_stays_read()
+    ensures { EventStaysRead }
+{}
+
+/// And a field that is wrong stays wrong.
+pub fn event_stays_wrong()
+    ensures { EventStaysWrong }
+{}
+
+/// Bytes with a field that can't be read are the body of no batch.
+pub fn wrong_is_no_body()
+    ensures { WrongIsNoBody }
 {}
 
 /// The bytes of a record that was made here and of one that was taken in, and how many events a batch has.
@@ -85,13 +163,23 @@ pub fn worked_fields()
     ensures { WorkedFields }
 {}
 
-/// The 33 bytes of a new log, and the places at which a header can't be read.
+/// The 33 bytes of a new log, the places at which a header can't be read, and what is an old log or none.
 pub fn worked_new_log()
     ensures { WorkedNewLog }
 {}
 
-/// The 91 bytes of a log with one started command, with other gates, and damaged in four
+/// The 91 bytes of an old log with one started command, with other gates, and damaged in four
 /// ways.
 pub fn worked_first_batch()
     ensures { WorkedFirstBatch }
+{}
+
+/// The 107 bytes of a log with one started command, and the same with one byte changed.
+pub fn worked_digests()
+    ensures { WorkedDigests }
+{}
+
+/// The places at which a body can't be read.
+pub fn worked_body_faults()
+    ensures { WorkedBodyFaults }
 {}

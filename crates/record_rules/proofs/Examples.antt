@@ -6,7 +6,7 @@ use Rattle.std.specs.Option.{option_or}
 use Rattle.std.proofs.lemmas.Bool.{true≢false}
 use Rattle.record_rules.specs.Limits.{most_entries, most_held_weight, most_places}
 use Rattle.record_rules.specs.Records.{SealedRecord, Entry, Started, Local, Taken, record_weight, page_weight, event_weight}
-use Rattle.record_rules.specs.Journal.{PassedLimit, own_events, records_of, places_of, places_added, chain, fits, RecordFits, Sound}
+use Rattle.record_rules.specs.Journal.{PassedLimit, own_events, records_of, places_of, places_added, chain, first_limit_passed, RecordFits, Sound}
 use Rattle.record_rules.specs.Examples.{WorkedHundred, WorkedFull, WorkedLimits, caller, kv_page, kv_record, placed_record, started_ls, entry_of, local_entry, WorkedTotals, WorkedStatus, WorkedRunning, WorkedPages, WorkedFronts, WorkedUnsound, WorkedSound, WorkedOwners}
 use Rattle.record_rules.specs.Growth.{PageTooLong, has_long_text, GoOn, taken_entry, grow}
 use Rattle.record_rules.proofs.FullOwner.{gap_is_told, full_is_told}
@@ -125,7 +125,7 @@ unsound = record {
 }
 
 -- a record that was taken in may follow where it is next, fits, and its owner has room
-taken_follows : (journal : List Entry) (host owner : ℕ) (r : SealedRecord) → Sound journal host → r.idx ≡ length (chain journal owner r.host r.tag) → RecordFits r → fits journal owner (record_weight r) (Some (record { host = r.host; tag = r.tag })) ≡ None → Sound (journal ++ entry_of (Taken owner r) ∷ []) host
+taken_follows : (journal : List Entry) (host owner : ℕ) (r : SealedRecord) → Sound journal host → r.idx ≡ length (chain journal owner r.host r.tag) → RecordFits r → first_limit_passed journal owner (record_weight r) (Some (record { host = r.host; tag = r.tag })) ≡ None → Sound (journal ++ entry_of (Taken owner r) ∷ []) host
 taken_follows journal host owner r sound next fit room = Sound-push journal (entry_of (Taken owner r)) host sound (record {
   numbered = next;
   made_here = tt;

@@ -4,13 +4,13 @@ use Rattle.std.specs.Prelude.{IfSome, slice_get, All, IsTrue, sum_by, nat_lt}
 use Rattle.std.specs.Option.{option_or}
 use Rattle.std.proofs.lemmas.Bool.{true≢false, eqb-true, le-ltb, cases_eq}
 use Rattle.std.proofs.lemmas.Option.{slice_get_within}
-use Rattle.std.proofs.lemmas.List.{append-nil, take_at, take-append-le, get_or_append_left, get_or_push, length_push}
+use Rattle.std.proofs.lemmas.List.{append-nil, map-append, take_at, take-append-le, get_or_append_left, get_or_push, length_push}
 use Rattle.std.proofs.lemmas.List.Sums.{sum_by-append}
 use Rattle.std.proofs.lemmas.List.Elements.{filter-append, filter_map-append}
 use Rattle.definitions.specs.Journal.{StartedRecord}
 use Rattle.record_rules.specs.Limits.{most_entries, most_held_weight, most_places}
 use Rattle.record_rules.specs.Records.{SealedRecord, Entry, Event, Started, Local, Taken, event_weight}
-use Rattle.record_rules.specs.Journal.{event_owner, event_record, event_place, own, events_of, own_events, records_of, in_place, IsNumbered, EventFits, IsOfHost, TotalsFit, held_of, places_of, places_added, limit_passed, closes_id, is_running, PassedLimit, Sound, MayFollow}
+use Rattle.record_rules.specs.Journal.{event_owner, event_record, event_place, events_of, own_of, records_of, in_place, IsNumbered, EventFits, IsOfHost, TotalsFit, held_of, places_of, places_added, limit_passed, closes_id, is_running, PassedLimit, SoundEvents, Sound, MayComeNext, MayFollow}
 use Rattle.record_rules.proofs.Options.{slice_get_front, slice_get_last}
 use Rattle.record_rules.proofs.Spots.{in_place_itself}
 use Rattle.record_rules.proofs.Soundness.{ClosesRunning, StartedApart, events_more, owned_more, owned_same}
@@ -69,7 +69,7 @@ pub held_prefix : (events more : List Event) → TotalsFit (held_of (events ++ m
 held_prefix events [] fit = subst (λ all. TotalsFit (held_of all)) (append-nil events) fit
 held_prefix events (event ∷ more) fit = held_front events event (held_prefix (events ++ event ∷ []) more (subst (λ all. TotalsFit (held_of all)) (sym (append_assoc events (event ∷ []) more)) fit))
 
--- ---- of a journal with one more entry
+-- ---- of events with one more
 
 record_is_next : (records : List SealedRecord) (r : SealedRecord) → IsNumbered (filter (in_place r.host r.tag) (records ++ r ∷ [])) → r.idx ≡ length (filter (in_place r.host r.tag) records)
 record_is_next records r numbered =
@@ -87,39 +87,50 @@ chain_front host tag events more numbered =
     let split : filter (in_place host tag) (records_of (events ++ more)) ≡ filter (in_place host tag) (records_of events) ++ filter (in_place host tag) (records_of more) = ap (filter (in_place host tag)) (filter_map-append event_record events more) ∙ filter-append (in_place host tag) (records_of events) (records_of more) in
     IsNumbered_front (filter (in_place host tag) (records_of events)) (filter (in_place host tag) (records_of more)) (subst IsNumbered split numbered)
 
--- what holds of what an owner holds with the entry holds without it
-without_entry : (journal : List Entry) (entry : Entry) (P : List Event → Type 0) → ((events : List Event) → P (events ++ entry.event ∷ []) → P events) → (owner : ℕ) → P (own_events (journal ++ entry ∷ []) owner) → P (own_events journal owner)
-without_entry journal entry P shorter owner all =
-    elim (cases_eq (event_owner entry.event) owner) [
-      | inl own ↦ subst (λ o. P (own_events journal o)) own (shorter (own_events journal (event_owner entry.event)) (subst P (owned_more journal entry) (subst (λ o. P (own_events (journal ++ entry ∷ []) o)) (sym own) all)))
-      | inr differ ↦ subst P (owned_same journal entry owner differ) all
+-- what holds of what an owner holds with the event holds without it
+without_event : (events : List Event) (event : Event) (P : List Event → Type 0) → ((owned : List Event) → P (owned ++ event ∷ []) → P owned) → (owner : ℕ) → P (own_of (events ++ event ∷ []) owner) → P (own_of events owner)
+without_event events event P shorter owner all =
+    elim (cases_eq (event_owner event) owner) [
+      | inl own ↦ subst (λ o. P (own_of events o)) own (shorter (own_of events (event_owner event)) (subst P (owned_more events event) (subst (λ o. P (own_of (events ++ event ∷ []) o)) (sym own) all)))
+      | inr differ ↦ subst P (owned_same events event owner differ) all
     ]
 
-pub Sound-front : (journal : List Entry) (host : ℕ) (entry : Entry) → Sound (journal ++ entry ∷ []) host → Sound journal host
-Sound-front journal host entry sound = record {
-  numbered = λ owner at tag. without_entry journal entry (λ owned. IsNumbered (filter (in_place at tag) (records_of owned))) (λ events. chain_front at tag events (entry.event ∷ [])) owner (sound.numbered owner at tag);
-  made_here = All_front (IsOfHost host) (events_of journal) entry.event (subst (All (IsOfHost host)) (events_more journal entry) sound.made_here);
-  closes_running = closes_front (events_of journal) entry.event (subst ClosesRunning (events_more journal entry) sound.closes_running);
-  started_apart = apart_front (events_of journal) entry.event (subst StartedApart (events_more journal entry) sound.started_apart);
-  events_fit = All_front EventFits (events_of journal) entry.event (subst (All EventFits) (events_more journal entry) sound.events_fit);
-  held_fits = λ owner. without_entry journal entry (λ owned. TotalsFit (held_of owned)) (λ events. held_front events entry.event) owner (sound.held_fits owner);
+pub SoundEvents-front : (events : List Event) (host : ℕ) (event : Event) → SoundEvents (events ++ event ∷ []) host → SoundEvents events host
+SoundEvents-front events host event sound = record {
+  numbered = λ owner at tag. without_event events event (λ owned. IsNumbered (filter (in_place at tag) (records_of owned))) (λ owned. chain_front at tag owned (event ∷ [])) owner (sound.numbered owner at tag);
+  made_here = All_front (IsOfHost host) events event sound.made_here;
+  closes_running = closes_front events event sound.closes_running;
+  started_apart = apart_front events event sound.started_apart;
+  events_fit = All_front EventFits events event sound.events_fit;
+  held_fits = λ owner. without_event events event (λ owned. TotalsFit (held_of owned)) (λ owned. held_front owned event) owner (sound.held_fits owner);
 }
 
-pub last_may_follow : (journal : List Entry) (host : ℕ) (entry : Entry) → Sound (journal ++ entry ∷ []) host → MayFollow journal host entry.event
-last_may_follow journal host entry sound =
-    let owner = event_owner entry.event in
-    let owned = own_events journal (event_owner entry.event) in
-    let more : own_events (journal ++ entry ∷ []) owner ≡ owned ++ entry.event ∷ [] = owned_more journal entry in
+pub last_may_come : (events : List Event) (host : ℕ) (event : Event) → SoundEvents (events ++ event ∷ []) host → MayComeNext events host event
+last_may_come events host event sound =
+    let owner = event_owner event in
+    let owned = own_of events (event_owner event) in
+    let more : own_of (events ++ event ∷ []) owner ≡ owned ++ event ∷ [] = owned_more events event in
     record {
-      numbered = last_is_next owned entry.event (λ at tag. subst (λ events. IsNumbered (filter (in_place at tag) (records_of events))) more (sound.numbered owner at tag));
-      made_here = All_last (IsOfHost host) (events_of journal) entry.event (subst (All (IsOfHost host)) (events_more journal entry) sound.made_here);
-      closes_running = closes_last (events_of journal) entry.event (subst ClosesRunning (events_more journal entry) sound.closes_running);
-      started_apart = apart_last (events_of journal) entry.event (subst StartedApart (events_more journal entry) sound.started_apart);
-      event_fits = All_last EventFits (events_of journal) entry.event (subst (All EventFits) (events_more journal entry) sound.events_fit);
-      held_fits = held_last owned entry.event (subst (λ events. TotalsFit (held_of events)) more (sound.held_fits owner));
+      numbered = last_is_next owned event (λ at tag. subst (λ held. IsNumbered (filter (in_place at tag) (records_of held))) more (sound.numbered owner at tag));
+      made_here = All_last (IsOfHost host) events event sound.made_here;
+      closes_running = closes_last events event sound.closes_running;
+      started_apart = apart_last events event sound.started_apart;
+      event_fits = All_last EventFits events event sound.events_fit;
+      held_fits = held_last owned event (subst (λ held. TotalsFit (held_of held)) more (sound.held_fits owner));
     }
 
--- a journal is sound as far as any place
+-- events are sound as far as any place
+pub SoundEvents-prefix : (events more : List Event) (host : ℕ) → SoundEvents (events ++ more) host → SoundEvents events host
+SoundEvents-prefix events [] host sound = subst (λ all. SoundEvents all host) (append-nil events) sound
+SoundEvents-prefix events (event ∷ more) host sound = SoundEvents-front events host event (SoundEvents-prefix (events ++ event ∷ []) more host (subst (λ all. SoundEvents all host) (sym (append_assoc events (event ∷ []) more)) sound))
+
+-- ---- journals
+
+pub Sound-front : (journal : List Entry) (host : ℕ) (entry : Entry) → Sound (journal ++ entry ∷ []) host → Sound journal host
+Sound-front journal host entry sound = SoundEvents-front (events_of journal) host entry.event (subst (λ events. SoundEvents events host) (events_more journal entry) sound)
+
+pub last_may_follow : (journal : List Entry) (host : ℕ) (entry : Entry) → Sound (journal ++ entry ∷ []) host → MayFollow journal host entry.event
+last_may_follow journal host entry sound = last_may_come (events_of journal) host entry.event (subst (λ events. SoundEvents events host) (events_more journal entry) sound)
+
 pub Sound-prefix : (journal more : List Entry) (host : ℕ) → Sound (journal ++ more) host → Sound journal host
-Sound-prefix journal [] host sound = subst (λ all. Sound all host) (append-nil journal) sound
-Sound-prefix journal (entry ∷ more) host sound = Sound-front journal host entry (Sound-prefix (journal ++ entry ∷ []) more host (subst (λ all. Sound all host) (sym (append_assoc journal (entry ∷ []) more)) sound))
+Sound-prefix journal more host sound = SoundEvents-prefix (events_of journal) (events_of more) host (subst (λ events. SoundEvents events host) (map-append (λ (e : Entry). e.event) journal more) sound)

@@ -8,7 +8,7 @@ use Rattle.std.proofs.lemmas.List.{append-nil}
 use Rattle.record_rules.specs.Limits.{most_entries}
 use Rattle.record_rules.specs.Records.{SealedRecord, Caller, Entry, record_weight}
 use Rattle.record_rules.specs.Journal.{own_events, records_of, chain, weight_passed, places_passed}
-use Rattle.record_rules.specs.Growth.{PageRefusal, PageGap, PageFull, same_spot, is_fresh, fresh_of, too_long_at, forked_by, forked_at, wanted_idx, gap_at, owned_with, full_at, refusal_at, taken_entry, batch_or, grow}
+use Rattle.record_rules.specs.Growth.{PageRefusal, PageGap, PageFull, same_place, is_fresh, fresh_of, too_long_at, forked_by, forked_at, wanted_idx, gap_at, owned_with, full_at, refusal_at, taken_entry, batch_or, grow}
 use Rattle.record_rules.proofs.NextPage.{find_none}
 
 module _ (journal : List Entry) (caller : Caller) (owner : ℕ) (r : SealedRecord) (short : too_long_at [] r ≡ None) (fresh : is_fresh (records_of (own_events journal owner)) r ≡ true) where
@@ -19,11 +19,11 @@ module _ (journal : List Entry) (caller : Caller) (owner : ℕ) (r : SealedRecor
   next = length (chain journal owner r.host r.tag)
 
   -- nothing holds the record's spot
-  spot_free : list_any (same_spot r) (records ++ []) ≡ false
-  spot_free = ap (list_any (same_spot r)) (append-nil records) ∙ not-true (list_any (same_spot r) records) fresh
+  spot_free : list_any (same_place r) (records ++ []) ≡ false
+  spot_free = ap (list_any (same_place r)) (append-nil records) ∙ not-true (list_any (same_place r) records) fresh
 
   unforked : forked_at (own_events journal owner) [] r ≡ None
-  unforked = ap (forked_by 0 r) (find_none (same_spot r) (records ++ []) spot_free)
+  unforked = ap (forked_by 0 r) (find_none (same_place r) (records ++ []) spot_free)
 
   wanted : wanted_idx (own_events journal owner) [] r ≡ next
   wanted = omega arith

@@ -3,10 +3,10 @@ use Rattle.std.proofs.Common.{◌≡◌, ◌≢◌, ℕ, Bool, inl, inr, List, [
 use Rattle.std.proofs.lemmas.Bool.{eq-eqb, ne_eqb, cases_eq, cases_Bool}
 use Rattle.record_rules.specs.Limits.{most_page_records, most_page_weight}
 use Rattle.record_rules.specs.Records.{Entry}
-use Rattle.record_rules.specs.Journal.{owned_by, own, events_of, own_events, counts_of, records_of, in_place}
+use Rattle.record_rules.specs.Journal.{own, own_events, counts_of, records_of, in_place}
 use Rattle.record_rules.specs.Growth.{grow, grown, growth_of}
 use Rattle.record_rules.specs.Answers.{OwnerRequest, OwnerReply, AskStatus, AskPage, SendPage, StatusIs, PageIs, front_within, growth_reply, reply_to, journal_after, OwnerAsked, OwnerTold, replies, asked_by, told_to}
-use Rattle.record_rules.proofs.Owned.{own_events_grown_other, own_events_grown_same}
+use Rattle.record_rules.proofs.Owned.{own_events_grown_other, own_events_grown_same, own_alone}
 
 pub replies_alike : (owner : ℕ) (request : OwnerRequest) (journal like : List Entry) → own_events journal owner ≡ own_events like owner → reply_to journal owner request ≡ reply_to like owner request
 replies_alike owner AskStatus journal like same = ap (λ owned. StatusIs (counts_of owned)) same
@@ -43,13 +43,5 @@ replies_alone owner (asked ∷ requests) journal like same =
 
 -- ---- as if no one else had anything
 
-filter_again : (p : Entry → Bool) (entries : List Entry) → filter p (filter p entries) ≡ filter p entries
-filter_again p [] = refl
-filter_again p (entry ∷ entries) =
-    elim (cases_Bool (p entry)) [
-      | inl kept ↦ rw (kept, kept) (ap (λ rest. entry ∷ rest) (filter_again p entries))
-      | inr dropped ↦ rw dropped (filter_again p entries)
-    ]
-
 pub replies_as_alone : (owner : ℕ) (requests : List OwnerAsked) (journal : List Entry) → told_to owner (replies journal requests) ≡ replies (own journal owner) (asked_by owner requests)
-replies_as_alone owner requests journal = replies_alone owner requests journal (own journal owner) (ap events_of (sym (filter_again (owned_by owner) journal)))
+replies_as_alone owner requests journal = replies_alone owner requests journal (own journal owner) (own_alone journal owner)

@@ -6,6 +6,8 @@ pub mod Isolation
 pub mod Members
 pub mod NextPage
 pub mod Numbering
+pub mod InTurn
+pub mod OneMore
 pub mod Options
 pub mod Origins
 pub mod Owned

@@ -8,7 +8,7 @@ use Rattle.std.proofs.lemmas.List.{append-nil, map-append, length_push}
 use Rattle.std.proofs.lemmas.List.Elements.{filter-append}
 use Rattle.record_rules.specs.Records.{SealedRecord, Caller, Entry, Taken, record_weight}
 use Rattle.record_rules.specs.Journal.{own_events, records_of, in_place, chain, IsNumbered, TotalsFit, held_of, limit_passed}
-use Rattle.record_rules.specs.Growth.{PageGap, PageFull, same_spot, fresh_of, GoOn, too_long_at, first_too_long, forked_by, forked_at, wanted_idx, gap_at, full_at, refusal_at, first_refusal, taken_entry, batch_or, grow}
+use Rattle.record_rules.specs.Growth.{PageGap, PageFull, same_place, fresh_of, GoOn, too_long_at, first_too_long, forked_by, forked_at, wanted_idx, gap_at, full_at, refusal_at, first_refusal, taken_entry, batch_or, grow}
 use Rattle.record_rules.proofs.Options.{option_or_none}
 use Rattle.record_rules.proofs.Spots.{in_place-from}
 use Rattle.record_rules.proofs.Fronts.{held_last, held_prefix}
@@ -34,11 +34,11 @@ all_more P [] r all here = (here, tt)
 all_more P (x ∷ records) r all here = (all.0, all_more P records r all.1 here)
 
 -- a record at or above that idx has no holder
-none_there : (records : List SealedRecord) (r : SealedRecord) (idx : ℕ) → Below r.host r.tag idx records → idx ≤ r.idx → list_any (same_spot r) records ≡ false
+none_there : (records : List SealedRecord) (r : SealedRecord) (idx : ℕ) → Below r.host r.tag idx records → idx ≤ r.idx → list_any (same_place r) records ≡ false
 none_there [] r idx below above = refl
 none_there (x ∷ records) r idx below above =
-    elim (in_place r.host r.tag x) as (λ b. AllByRecursion (λ (y : SealedRecord). y.idx < idx) (cond b (x ∷ filter (in_place r.host r.tag) records) (filter (in_place r.host r.tag) records)) → ((b && (x.idx == r.idx)) || list_any (same_spot r) records) ≡ false) [
-      | true ↦ λ inside. or_from (x.idx == r.idx) (list_any (same_spot r) records) (ne_eqb x.idx r.idx (λ same. let low : x.idx < idx = inside.0 in omega arith)) (none_there records r idx inside.1 above)
+    elim (in_place r.host r.tag x) as (λ b. AllByRecursion (λ (y : SealedRecord). y.idx < idx) (cond b (x ∷ filter (in_place r.host r.tag) records) (filter (in_place r.host r.tag) records)) → ((b && (x.idx == r.idx)) || list_any (same_place r) records) ≡ false) [
+      | true ↦ λ inside. or_from (x.idx == r.idx) (list_any (same_place r) records) (ne_eqb x.idx r.idx (λ same. let low : x.idx < idx = inside.0 in omega arith)) (none_there records r idx inside.1 above)
       | false ↦ λ outside. none_there records r idx outside above
     ] below
 
@@ -70,7 +70,7 @@ module _ (journal : List Entry) (caller : Caller) (owner host : ℕ) (tag : List
     tag_is : r.tag ≡ tag
     idx_is : r.idx ≡ before + length earlier
 
-  next_is_fresh : (earlier : List SealedRecord) (r : SealedRecord) → Ahead earlier → Next earlier r → list_any (same_spot r) (held_records ++ earlier) ≡ false
+  next_is_fresh : (earlier : List SealedRecord) (r : SealedRecord) → Ahead earlier → Next earlier r → list_any (same_place r) (held_records ++ earlier) ≡ false
   next_is_fresh earlier r ahead next =
       let at : Below r.host r.tag (before + length earlier) (held_records ++ earlier) = subst (λ h. Below h r.tag (before + length earlier) (held_records ++ earlier)) (sym next.host_is) (subst (λ t. Below host t (before + length earlier) (held_records ++ earlier)) (sym next.tag_is) ahead.below) in
       none_there (held_records ++ earlier) r (before + length earlier) at (let idx = next.idx_is in omega arith)
@@ -85,7 +85,7 @@ module _ (journal : List Entry) (caller : Caller) (owner host : ℕ) (tag : List
   next_accepted earlier r rest ahead next short room =
       let owned = own_events journal owner in
       let none = next_is_fresh earlier r ahead next in
-      let forked : forked_at owned earlier r ≡ None = ap (forked_by (length earlier) r) (find_none (same_spot r) (held_records ++ earlier) none) in
+      let forked : forked_at owned earlier r ≡ None = ap (forked_by (length earlier) r) (find_none (same_place r) (held_records ++ earlier) none) in
       let counted : wanted_idx owned earlier r ≡ before + length earlier = (λ i. length (filter (in_place (next.host_is i) (next.tag_is i)) held_records) + length (filter (in_place (next.host_is i) (next.tag_is i)) (ahead.fresh i))) ∙ ap (λ rs. before + length rs) ahead.inside in
       let wanted = eq-eqb r.idx (wanted_idx owned earlier r) (next.idx_is ∙ sym counted) in
       let gap : gap_at owned earlier r ≡ None = λ i. cond (not (none i) && not (wanted i)) (Some (PageGap (length earlier) (wanted_idx owned earlier r))) None in

@@ -7,7 +7,8 @@ use Rattle.std.proofs.lemmas.List.{append-nil}
 use Rattle.std.proofs.lemmas.Option.{none-some, same_Some}
 use Rattle.record_rules.specs.Records.{SealedRecord, Caller, Entry, Event, record_weight, page_weight}
 use Rattle.record_rules.specs.Journal.{PassedLimit, limit_passed, own_events, records_of, in_place, chain, IsNumbered, Sound}
-use Rattle.record_rules.specs.Growth.{PageRefusal, PageTooLong, PageForked, PageGap, PageFull, GoOn, passes_page, has_long_text, wanted_idx, owned_with, same_spot, holder, is_fresh, fresh_of, IsFront, forked_by, forked_at, too_long_at, gap_at, full_at, refusal_at, first_refusal, taken_entry, batch_or, grow, grown}
+use Rattle.definitions.specs.Prefixes.{IsPrefix}
+use Rattle.record_rules.specs.Growth.{PageRefusal, PageTooLong, PageForked, PageGap, PageFull, GoOn, passes_page, has_long_text, wanted_idx, owned_with, same_place, holder, is_fresh, fresh_of, forked_by, forked_at, too_long_at, gap_at, full_at, refusal_at, first_refusal, taken_entry, batch_or, grow, grown}
 use Rattle.record_rules.proofs.Members.{Has, Has-from_place, place_of_Has, Has-append, Has-filter, Has-kept, Has-take, Has-drop, find_has}
 use Rattle.record_rules.proofs.Spots.{in_place-true, in_place-from}
 use Rattle.record_rules.proofs.Repeats.{chain_extended}
@@ -21,7 +22,7 @@ numbered_once origin r x numbered has_r has_x same =
     let places : at_x.0 ≡ at_r.0 = sym (numbered at_x.0 x at_x.1) ∙ same ∙ numbered at_r.0 r at_r.1 in
     same_Some x r (sym at_x.1 ∙ ap (slice_get origin) places ∙ at_r.1)
 
-front_from_places : (xs ys : List SealedRecord) → ((k : ℕ) (x : SealedRecord) → slice_get xs k ≡ Some x → slice_get ys k ≡ Some x) → IsFront xs ys
+front_from_places : (xs ys : List SealedRecord) → ((k : ℕ) (x : SealedRecord) → slice_get xs k ≡ Some x → slice_get ys k ≡ Some x) → IsPrefix xs ys
 front_from_places [] ys same = refl
 front_from_places (x ∷ xs) [] same = absurd (none-some x (same 0 x refl))
 front_from_places (x ∷ xs) (y ∷ ys) same =
@@ -30,7 +31,7 @@ front_from_places (x ∷ xs) (y ∷ ys) same =
     λ i. first i ∷ rest i
 
 -- a numbered list of records of a numbered one is a front of it
-numbered_front : (xs ys : List SealedRecord) → IsNumbered xs → IsNumbered ys → ((x : SealedRecord) → Has xs x → Has ys x) → IsFront xs ys
+numbered_front : (xs ys : List SealedRecord) → IsNumbered xs → IsNumbered ys → ((x : SealedRecord) → Has xs x → Has ys x) → IsPrefix xs ys
 numbered_front xs ys numbered numbered_too inside = front_from_places xs ys (λ k x at.
     let found = place_of_Has ys x (inside x (Has-from_place xs k x at)) in
     let same : found.0 ≡ k = sym (numbered_too found.0 x found.1) ∙ numbered k x at in
@@ -60,7 +61,7 @@ pub record FromOrigin (journal : List Entry) (owner host : ℕ) (tag : List ℕ)
   pub placed : (x : SealedRecord) → Has page x → in_place host tag x ≡ true
 
 -- after a page is taken the chain is still a front
-pub stays_front : (journal : List Entry) (of_host : ℕ) (caller : Caller) (owner host : ℕ) (tag : List ℕ) (origin page : List SealedRecord) (batch : List Entry) → Sound journal of_host → FromOrigin journal owner host tag origin page → grow journal caller owner page ≡ Ok batch → IsFront (chain (journal ++ batch) owner host tag) origin
+pub stays_front : (journal : List Entry) (of_host : ℕ) (caller : Caller) (owner host : ℕ) (tag : List ℕ) (origin page : List SealedRecord) (batch : List Entry) → Sound journal of_host → FromOrigin journal owner host tag origin page → grow journal caller owner page ≡ Ok batch → IsPrefix (chain (journal ++ batch) owner host tag) origin
 stays_front journal of_host caller owner host tag origin page batch sound from taken =
     let after : Sound (journal ++ batch) of_host = subst (λ result. Sound (grown journal result) of_host) taken (growth_stays_sound journal of_host caller owner page sound) in
     let fresh = fresh_of (records_of (own_events journal owner)) page in
@@ -114,7 +115,7 @@ module _ (journal : List Entry) (owner host : ℕ) (tag : List ℕ) (origin page
   same_holder earlier r None in_page before found = refl
   same_holder earlier r (Some other) in_page before found =
       let records = records_of (own_events journal owner) in
-      let there = find_has (same_spot r) (records_of (own_events journal owner) ++ earlier) other found in
+      let there = find_has (same_place r) (records_of (own_events journal owner) ++ earlier) other found in
       let spot = and_parts (in_place r.host r.tag other) (other.idx == r.idx) there.0 in
       let at = in_place-true host tag r (from.placed r in_page) in
       let placed : in_place host tag other ≡ true = (λ i. in_place (sym at.host_is i) (sym at.tag_is i) other) ∙ spot.0 in
@@ -159,7 +160,7 @@ go_on_placed host tag idx [] go_on x has = absurd has
 go_on_placed host tag idx (r ∷ records) go_on x (inl here) = ap (in_place host tag) (sym here) ∙ in_place-from host tag r (record { host_is = go_on.0; tag_is = go_on.1 })
 go_on_placed host tag idx (r ∷ records) go_on x (inr later) = go_on_placed host tag (idx + 1) records go_on.3 x later
 
-slice_from_origin : (journal : List Entry) (owner host : ℕ) (tag : List ℕ) (origin : List SealedRecord) (start count : ℕ) → GoOn host tag 0 origin → IsFront (chain journal owner host tag) origin → FromOrigin journal owner host tag origin (take count (drop start origin))
+slice_from_origin : (journal : List Entry) (owner host : ℕ) (tag : List ℕ) (origin : List SealedRecord) (start count : ℕ) → GoOn host tag 0 origin → IsPrefix (chain journal owner host tag) origin → FromOrigin journal owner host tag origin (take count (drop start origin))
 slice_from_origin journal owner host tag origin start count go_on front = record {
   numbered = λ k r at. go_on_idx host tag 0 origin go_on k r at ∙ omega arith;
   chained = λ x has. Has-take (length (chain journal owner host tag)) origin x (subst (λ xs. Has xs x) front has);
@@ -167,10 +168,10 @@ slice_from_origin journal owner host tag origin start count go_on front = record
   placed = λ x has. go_on_placed host tag 0 origin go_on x (Has-drop start origin x (Has-take count (drop start origin) x has));
 }
 
-pub slice_never_forks : (journal : List Entry) (caller : Caller) (owner host : ℕ) (tag : List ℕ) (origin : List SealedRecord) (start count position held : ℕ) → GoOn host tag 0 origin → IsFront (chain journal owner host tag) origin → grow journal caller owner (take count (drop start origin)) ≡ Err (PageForked position held) → ⊥
+pub slice_never_forks : (journal : List Entry) (caller : Caller) (owner host : ℕ) (tag : List ℕ) (origin : List SealedRecord) (start count position held : ℕ) → GoOn host tag 0 origin → IsPrefix (chain journal owner host tag) origin → grow journal caller owner (take count (drop start origin)) ≡ Err (PageForked position held) → ⊥
 slice_never_forks journal caller owner host tag origin start count position held go_on front = never_forked journal owner host tag origin (take count (drop start origin)) (slice_from_origin journal owner host tag origin start count go_on front) caller position held
 
-pub slice_keeps_front : (journal : List Entry) (of_host : ℕ) (caller : Caller) (owner host : ℕ) (tag : List ℕ) (origin : List SealedRecord) (start count : ℕ) (batch : List Entry) → Sound journal of_host → GoOn host tag 0 origin → IsFront (chain journal owner host tag) origin → grow journal caller owner (take count (drop start origin)) ≡ Ok batch → IsFront (chain (journal ++ batch) owner host tag) origin
+pub slice_keeps_front : (journal : List Entry) (of_host : ℕ) (caller : Caller) (owner host : ℕ) (tag : List ℕ) (origin : List SealedRecord) (start count : ℕ) (batch : List Entry) → Sound journal of_host → GoOn host tag 0 origin → IsPrefix (chain journal owner host tag) origin → grow journal caller owner (take count (drop start origin)) ≡ Ok batch → IsPrefix (chain (journal ++ batch) owner host tag) origin
 slice_keeps_front journal of_host caller owner host tag origin start count batch sound go_on front taken = stays_front journal of_host caller owner host tag origin (take count (drop start origin)) batch sound (slice_from_origin journal owner host tag origin start count go_on front) taken
 
 -- ---- the other chains

@@ -1,14 +1,36 @@
 -- What an owner holds after more entries.
-use Rattle.std.proofs.Common.{◌≡◌, ◌≢◌, ℕ, List, [], ◌∷◌, ◌++◌, map, Option, Some, None, Result, Ok, Err, refl, sym, ◌∙◌, ap}
-use Rattle.std.proofs.lemmas.Bool.{eq-eqb, ne_eqb}
+use Rattle.std.proofs.Common.{◌≡◌, ◌≢◌, ℕ, List, [], ◌∷◌, ◌++◌, map, filter, Bool, true, false, cond, inl, inr, Option, Some, None, Result, Ok, Err, refl, sym, ◌∙◌, ap}
+use Rattle.std.proofs.lemmas.Bool.{eq-eqb, ne_eqb, cases_Bool}
 use Rattle.std.proofs.lemmas.List.{map-append, append-nil}
 use Rattle.std.proofs.lemmas.List.Elements.{filter-append, filter_map-append}
 use Rattle.record_rules.specs.Records.{SealedRecord, Caller, Entry, Taken}
-use Rattle.record_rules.specs.Journal.{owned_by, own, events_of, own_events, records_of, event_record}
+use Rattle.record_rules.specs.Journal.{is_owned_by, owned_by, own, events_of, own_of, own_events, records_of, event_record}
 use Rattle.record_rules.specs.Growth.{PageRefusal, taken_entry, batch_or, grow, grown, fresh_of, first_refusal}
 
 pub own_events-append : (journal more : List Entry) (owner : ℕ) → own_events (journal ++ more) owner ≡ own_events journal owner ++ own_events more owner
-own_events-append journal more owner = ap events_of (filter-append (owned_by owner) journal more) ∙ map-append (λ (entry : Entry). entry.event) (own journal owner) (own more owner)
+own_events-append journal more owner = ap (filter (is_owned_by owner)) (map-append (λ (entry : Entry). entry.event) journal more) ∙ filter-append (is_owned_by owner) (events_of journal) (events_of more)
+
+-- the owner's entries say what the owner holds, and hold all of it
+pub own_says : (journal : List Entry) (owner : ℕ) → own_events journal owner ≡ events_of (own journal owner)
+own_says [] owner = refl
+own_says (entry ∷ journal) owner =
+    let rest = own_says journal owner in
+    elim (owned_by owner entry) as (λ b. cond b (entry.event ∷ own_events journal owner) (own_events journal owner) ≡ events_of (cond b (entry ∷ own journal owner) (own journal owner))) [
+      | true ↦ ap (λ events. entry.event ∷ events) rest
+      | false ↦ rest
+    ]
+
+-- a filter leaves what it let through
+filter_again : {A : Type 0} (p : A → Bool) (xs : List A) → filter p (filter p xs) ≡ filter p xs
+filter_again p [] = refl
+filter_again p (x ∷ xs) =
+    elim (cases_Bool (p x)) [
+      | inl kept ↦ rw (kept, kept) (ap (λ rest. x ∷ rest) (filter_again p xs))
+      | inr dropped ↦ rw dropped (filter_again p xs)
+    ]
+
+pub own_alone : (journal : List Entry) (owner : ℕ) → own_events journal owner ≡ own_events (own journal owner) owner
+own_alone journal owner = sym (ap (filter (is_owned_by owner)) (sym (own_says journal owner)) ∙ filter_again (is_owned_by owner) (events_of journal))
 
 -- what was taken in for an owner is that owner's
 pub own_events_taken : (caller : Caller) (owner : ℕ) (records : List SealedRecord) → own_events (map (taken_entry caller owner) records) owner ≡ map (Taken owner) records

@@ -4,14 +4,13 @@ use Rattle.std.specs.Prelude.{slice_get, All, IsTrue}
 use Rattle.std.proofs.lemmas.Bool.{eq-eqb, ne_eqb, cases_eq}
 use Rattle.std.proofs.lemmas.Option.{none-some}
 use Rattle.std.proofs.lemmas.List.{append-nil, map-append, take_at, take-append-le}
-use Rattle.std.proofs.lemmas.List.Elements.{All-push}
+use Rattle.std.proofs.lemmas.List.Elements.{All-push, filter-append}
 use Rattle.definitions.specs.Journal.{StartedRecord}
 use Rattle.record_rules.specs.Records.{SealedRecord, Entry, Event, Started, Local, Taken, event_weight}
-use Rattle.record_rules.specs.Journal.{event_owner, event_place, own, events_of, own_events, records_of, in_place, IsNumbered, EventFits, IsOfHost, TotalsFit, held_of, closes_id, is_running, Sound, MayFollow}
+use Rattle.record_rules.specs.Journal.{event_owner, event_place, is_owned_by, events_of, own_of, records_of, in_place, IsNumbered, EventFits, IsOfHost, TotalsFit, held_of, closes_id, is_running, SoundEvents, Sound, MayComeNext, MayFollow}
 use Rattle.record_rules.proofs.Options.{slice_get_push, slice_get_front}
 use Rattle.record_rules.proofs.Numbering.{chains_stay_numbered}
 use Rattle.record_rules.proofs.Totals.{room_from_none, TotalsFit-more}
-use Rattle.record_rules.proofs.Owned.{own_events-append}
 
 -- each closing event closes what runs before it, with one more event
 abbrev pub ClosesRunning : List Event → Type 0
@@ -41,34 +40,38 @@ apart_more events event before here i k s t below at_i at_k =
           here i s t early new.1
     ]
 
-module _ (journal : List Entry) (entry : Entry) where
-  -- the journal with the entry
-  pub events_more : events_of (journal ++ entry ∷ []) ≡ events_of journal ++ entry.event ∷ []
-  events_more = map-append (λ (e : Entry). e.event) journal (entry ∷ [])
+module _ (events : List Event) (event : Event) where
+  -- what the owners hold with one more event
+  pub owned_more : own_of (events ++ event ∷ []) (event_owner event) ≡ own_of events (event_owner event) ++ event ∷ []
+  owned_more = filter-append (is_owned_by (event_owner event)) events (event ∷ []) ∙ ap (λ b. own_of events (event_owner event) ++ cond b (event ∷ []) []) (eq-eqb (event_owner event) (event_owner event) refl)
 
-  pub owned_more : own_events (journal ++ entry ∷ []) (event_owner entry.event) ≡ own_events journal (event_owner entry.event) ++ entry.event ∷ []
-  owned_more = own_events-append journal (entry ∷ []) (event_owner entry.event) ∙ ap (λ b. own_events journal (event_owner entry.event) ++ events_of (cond b (entry ∷ []) [])) (eq-eqb (event_owner entry.event) (event_owner entry.event) refl)
+  pub owned_same : (owner : ℕ) → event_owner event ≢ owner → own_of (events ++ event ∷ []) owner ≡ own_of events owner
+  owned_same owner differ = filter-append (is_owned_by owner) events (event ∷ []) ∙ ap (λ b. own_of events owner ++ cond b (event ∷ []) []) (ne_eqb (event_owner event) owner differ) ∙ append-nil (own_of events owner)
 
-  pub owned_same : (owner : ℕ) → event_owner entry.event ≢ owner → own_events (journal ++ entry ∷ []) owner ≡ own_events journal owner
-  owned_same owner differ = own_events-append journal (entry ∷ []) owner ∙ ap (λ b. own_events journal owner ++ events_of (cond b (entry ∷ []) [])) (ne_eqb (event_owner entry.event) owner differ) ∙ append-nil (own_events journal owner)
-
-  -- what holds of what each owner holds, holds of it with the entry
-  by_owner : (P : List Event → Type 0) (owner : ℕ) → P (own_events journal owner) → P (own_events journal (event_owner entry.event) ++ entry.event ∷ []) → P (own_events (journal ++ entry ∷ []) owner)
+  -- what holds of what each owner holds, holds of it with the event
+  by_owner : (P : List Event → Type 0) (owner : ℕ) → P (own_of events owner) → P (own_of events (event_owner event) ++ event ∷ []) → P (own_of (events ++ event ∷ []) owner)
   by_owner P owner before after =
-      elim (cases_eq (event_owner entry.event) owner) [
-        | inl own ↦ subst (λ o. P (own_events (journal ++ entry ∷ []) o)) own (subst P (sym owned_more) after)
+      elim (cases_eq (event_owner event) owner) [
+        | inl own ↦ subst (λ o. P (own_of (events ++ event ∷ []) o)) own (subst P (sym owned_more) after)
         | inr differ ↦ subst P (sym (owned_same owner differ)) before
       ]
 
-  pub Sound-push : (host : ℕ) → Sound journal host → MayFollow journal host entry.event → Sound (journal ++ entry ∷ []) host
-  Sound-push host sound follows = record {
-    numbered = λ owner at tag. by_owner (λ owned. IsNumbered (filter (in_place at tag) (records_of owned))) owner (sound.numbered owner at tag) (chains_stay_numbered at tag (own_events journal (event_owner entry.event)) entry.event (sound.numbered (event_owner entry.event) at tag) follows.numbered);
-    made_here = subst (All (IsOfHost host)) (sym events_more) (All-push (IsOfHost host) (events_of journal) entry.event sound.made_here follows.made_here);
-    closes_running = subst ClosesRunning (sym events_more) (closes_more (events_of journal) entry.event sound.closes_running follows.closes_running);
-    started_apart = subst StartedApart (sym events_more) (apart_more (events_of journal) entry.event sound.started_apart follows.started_apart);
-    events_fit = subst (All EventFits) (sym events_more) (All-push EventFits (events_of journal) entry.event sound.events_fit follows.event_fits);
-    held_fits = λ owner. by_owner (λ owned. TotalsFit (held_of owned)) owner (sound.held_fits owner) (TotalsFit-more (own_events journal (event_owner entry.event)) entry.event (room_from_none (own_events journal (event_owner entry.event)) (event_weight entry.event) (event_place entry.event) follows.held_fits));
+  pub SoundEvents-push : (host : ℕ) → SoundEvents events host → MayComeNext events host event → SoundEvents (events ++ event ∷ []) host
+  SoundEvents-push host sound follows = record {
+    numbered = λ owner at tag. by_owner (λ owned. IsNumbered (filter (in_place at tag) (records_of owned))) owner (sound.numbered owner at tag) (chains_stay_numbered at tag (own_of events (event_owner event)) event (sound.numbered (event_owner event) at tag) follows.numbered);
+    made_here = All-push (IsOfHost host) events event sound.made_here follows.made_here;
+    closes_running = closes_more events event sound.closes_running follows.closes_running;
+    started_apart = apart_more events event sound.started_apart follows.started_apart;
+    events_fit = All-push EventFits events event sound.events_fit follows.event_fits;
+    held_fits = λ owner. by_owner (λ owned. TotalsFit (held_of owned)) owner (sound.held_fits owner) (TotalsFit-more (own_of events (event_owner event)) event (room_from_none (own_of events (event_owner event)) (event_weight event) (event_place event) follows.held_fits));
   }
+
+-- the journal with one more entry
+pub events_more : (journal : List Entry) (entry : Entry) → events_of (journal ++ entry ∷ []) ≡ events_of journal ++ entry.event ∷ []
+events_more journal entry = map-append (λ (e : Entry). e.event) journal (entry ∷ [])
+
+pub Sound-push : (journal : List Entry) (entry : Entry) (host : ℕ) → Sound journal host → MayFollow journal host entry.event → Sound (journal ++ entry ∷ []) host
+Sound-push journal entry host sound follows = subst (λ events. SoundEvents events host) (sym (events_more journal entry)) (SoundEvents-push (events_of journal) entry.event host sound follows)
 
 pub taken_not_started : (owner : ℕ) (r : SealedRecord) (s : StartedRecord) → Taken owner r ≡ Started s → ⊥
 taken_not_started owner r s same = cc

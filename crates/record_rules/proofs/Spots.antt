@@ -8,7 +8,7 @@ use Rattle.std.proofs.lemmas.List.Folds.{find-append}
 use Rattle.std.proofs.lemmas.Slice.Eq.{bytes_eq-Decides}
 use Rattle.record_rules.specs.Records.{SealedRecord}
 use Rattle.record_rules.specs.Journal.{in_place}
-use Rattle.record_rules.specs.Growth.{same_spot, holder, fresh_of}
+use Rattle.record_rules.specs.Growth.{same_place, holder, fresh_of}
 
 -- the record is of that host and tag
 pub record InPlace (host : ℕ) (tag : List ℕ) (r : SealedRecord) : Type 0 where
@@ -26,11 +26,11 @@ in_place-from host tag r h = and_from (r.host == host) (bytes_eq r.tag tag) (eq-
 pub in_place_itself : (r : SealedRecord) → in_place r.host r.tag r ≡ true
 in_place_itself r = in_place-from r.host r.tag r (record { host_is = refl; tag_is = refl })
 
-pub same_spot_itself : (r : SealedRecord) → same_spot r r ≡ true
+pub same_spot_itself : (r : SealedRecord) → same_place r r ≡ true
 same_spot_itself r = and_from (in_place r.host r.tag r) (r.idx == r.idx) (in_place_itself r) (eq-eqb r.idx r.idx refl)
 
-pub same_spot-trans : (r x y : SealedRecord) → same_spot r x ≡ true → same_spot x y ≡ true → same_spot r y ≡ true
-same_spot-trans r x y rx xy =
+pub same_place-trans : (r x y : SealedRecord) → same_place r x ≡ true → same_place x y ≡ true → same_place r y ≡ true
+same_place-trans r x y rx xy =
     let first = and_parts (in_place r.host r.tag x) (x.idx == r.idx) rx in
     let second = and_parts (in_place x.host x.tag y) (y.idx == x.idx) xy in
     let place = in_place-true r.host r.tag x first.0 in
@@ -47,22 +47,22 @@ find_where_any p (x ∷ xs) ys h =
     ] h
 
 -- a record that a spot is held beside it passes whatever one of its spot passes
-any_of_spot : (r x : SealedRecord) (records : List SealedRecord) → same_spot r x ≡ true → list_any (same_spot x) records ≡ true → list_any (same_spot r) records ≡ true
+any_of_spot : (r x : SealedRecord) (records : List SealedRecord) → same_place r x ≡ true → list_any (same_place x) records ≡ true → list_any (same_place r) records ≡ true
 any_of_spot r x [] rx h = h
 any_of_spot r x (y ∷ records) rx h =
-    elim (or_cases (same_spot x y) (list_any (same_spot x) records) h) [
-      | inl here ↦ or_left (same_spot r y) (list_any (same_spot r) records) (same_spot-trans r x y rx here)
-      | inr later ↦ or_right (same_spot r y) (list_any (same_spot r) records) (any_of_spot r x records rx later)
+    elim (or_cases (same_place x y) (list_any (same_place x) records) h) [
+      | inl here ↦ or_left (same_place r y) (list_any (same_place r) records) (same_place-trans r x y rx here)
+      | inr later ↦ or_right (same_place r y) (list_any (same_place r) records) (any_of_spot r x records rx later)
     ]
 
 -- a record whose spot is held changes no holder
-holder_of_held : (r x : SealedRecord) (records more : List SealedRecord) → list_any (same_spot x) records ≡ true → holder ((records ++ x ∷ []) ++ more) r ≡ holder (records ++ more) r
+holder_of_held : (r x : SealedRecord) (records more : List SealedRecord) → list_any (same_place x) records ≡ true → holder ((records ++ x ∷ []) ++ more) r ≡ holder (records ++ more) r
 holder_of_held r x records more held =
-    ap (λ all. holder all r) (append_assoc records (x ∷ []) more) ∙ elim (cases_Bool (same_spot r x)) [
+    ap (λ all. holder all r) (append_assoc records (x ∷ []) more) ∙ elim (cases_Bool (same_place r x)) [
       | inl same ↦
-          let any : list_any (same_spot r) records ≡ true = any_of_spot r x records same held in
-          find_where_any (same_spot r) records (x ∷ more) any ∙ sym (find_where_any (same_spot r) records more any)
-      | inr differs ↦ find-append (same_spot r) records (x ∷ more) ∙ ap (λ b. option_or (holder records r) (cond b (Some x) (holder more r))) differs ∙ sym (find-append (same_spot r) records more)
+          let any : list_any (same_place r) records ≡ true = any_of_spot r x records same held in
+          find_where_any (same_place r) records (x ∷ more) any ∙ sym (find_where_any (same_place r) records more any)
+      | inr differs ↦ find-append (same_place r) records (x ∷ more) ∙ ap (λ b. option_or (holder records r) (cond b (Some x) (holder more r))) differs ∙ sym (find-append (same_place r) records more)
     ]
 
 -- the holder is among the fresh records
@@ -70,7 +70,7 @@ pub holder_is_fresh : (r : SealedRecord) (records page : List SealedRecord) → 
 holder_is_fresh r records [] = refl
 holder_is_fresh r records (x ∷ page) =
     let next = holder_is_fresh r (records ++ x ∷ []) page in
-    elim (cases_Bool (list_any (same_spot x) records)) [
+    elim (cases_Bool (list_any (same_place x) records)) [
       | inl held ↦ ap (λ b. holder (records ++ cond (not b) (x ∷ fresh_of (records ++ x ∷ []) page) (fresh_of (records ++ x ∷ []) page)) r) held ∙ sym (holder_of_held r x records (fresh_of (records ++ x ∷ []) page) held) ∙ next ∙ ap (λ all. holder all r) (append_assoc records (x ∷ []) page)
       | inr fresh ↦ ap (λ b. holder (records ++ cond (not b) (x ∷ fresh_of (records ++ x ∷ []) page) (fresh_of (records ++ x ∷ []) page)) r) fresh ∙ ap (λ all. holder all r) (sym (append_assoc records (x ∷ []) (fresh_of (records ++ x ∷ []) page))) ∙ next ∙ ap (λ all. holder all r) (append_assoc records (x ∷ []) page)
     ]

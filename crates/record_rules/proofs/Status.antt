@@ -9,7 +9,7 @@ use Rattle.std.specs.Ordering.{is_lt, is_eq, nat_cmp, ordering_then, ordering_re
 use Rattle.std.proofs.lemmas.Cmp.{then_total, on_total, nat_cmp_total, nat_list_cmp_total, ranked, tied_itself}
 use Rattle.std.specs.List.{list_any, AllByRecursion}
 use Rattle.std.proofs.lemmas.Bool.{true≢false, cases_Bool, and_parts, eqb-true, eq-eqb, and_from, or_left, or_right, or_from, or_parts, false_from_ne_true, lt-ltb}
-use Rattle.std.proofs.lemmas.List.Elements.{All-from_recursion}
+use Rattle.std.proofs.lemmas.List.Elements.{All-from_recursion, All-head, All-tail}
 use Rattle.std.proofs.lemmas.Slice.Eq.{bytes_eq-Decides}
 use Rattle.record_rules.specs.Records.{SealedRecord, Entry}
 use Rattle.record_rules.specs.Journal.{ChainPlace, ChainCount, own_events, records_of, in_place, chain, place_cmp, put_in_order, places_of, status, count_at, Ascends}
@@ -179,8 +179,8 @@ status_positive journal owner =
 
 -- ---- the lengths alone make the status
 
-pub same_place : (host : ℕ) (tag : List ℕ) (place : ChainPlace) → is_place host tag place ≡ true → (place.host ≡ host) × (place.tag ≡ tag)
-same_place host tag place here =
+pub names_place : (host : ℕ) (tag : List ℕ) (place : ChainPlace) → is_place host tag place ≡ true → (place.host ≡ host) × (place.tag ≡ tag)
+names_place host tag place here =
     let parts = and_parts (place.host == host) (bytes_eq place.tag tag) here in
     (eqb-true place.host host parts.0, (bytes_eq-Decides place.tag tag).0 parts.1)
 
@@ -189,7 +189,7 @@ same_place_itself place = and_from (place.host == place.host) (bytes_eq place.ta
 
 less_is_other : (place other : ChainPlace) → place_cmp place other ≡ Less → is_place place.host place.tag other ≡ false
 less_is_other place other less = false_from_ne_true (is_place place.host place.tag other) (λ here.
-    let same = same_place place.host place.tag other here in
+    let same = names_place place.host place.tag other here in
     let tied : place_cmp place other ≡ Equal = (λ i. place_cmp place (record { host = same.0 i; tag = same.1 i })) ∙ tied_itself place_total place in
     less_not_equal (sym less ∙ tied))
   where
@@ -215,7 +215,7 @@ tails_alike : (place other : ChainPlace) (places others : List ChainPlace) → p
 tails_alike place other places others first ascends ascends_too same host tag =
     elim (cases_Bool (is_place host tag place)) [
       | inl here ↦
-          let at = same_place host tag place here in
+          let at = names_place host tag place here in
           let gone : list_any (is_place host tag) places ≡ false = (λ i. list_any (is_place (sym at.0 i) (sym at.1 i)) places) ∙ not_among_later place places ascends.0 in
           let gone_too : list_any (is_place host tag) others ≡ false = (λ i. list_any (is_place (sym at.0 i) (sym at.1 i)) others) ∙ ap (λ (p : ChainPlace). list_any (is_place p.host p.tag) others) first ∙ not_among_later other others ascends_too.0 in
           gone ∙ sym gone_too
@@ -235,7 +235,7 @@ places_alike (place ∷ places) (other ∷ others) ascends ascends_too same =
   where
     first_alike : (o : Ordering) → place_cmp place other ≡ o → place ≡ other
     first_alike Less less = absurd (not_before place other places others ascends_too same less)
-    first_alike Equal tied = let at = same_place place.host place.tag other (tied_places place other tied) in λ i. record { host = sym at.0 i; tag = sym at.1 i }
+    first_alike Equal tied = let at = names_place place.host place.tag other (tied_places place other tied) in λ i. record { host = sym at.0 i; tag = sym at.1 i }
     first_alike Greater greater = absurd (not_before other place others places ascends (λ host tag. sym (same host tag)) (place_total.antisymm other place ∙ ap ordering_reverse greater))
 
 any_is_positive : (p : SealedRecord → Bool) (records : List SealedRecord) → list_any p records ≡ nat_lt 0 (length (filter p records))
@@ -258,3 +258,44 @@ lengths_make_status journal other owner whose same =
     let others = records_of (own_events other whose) in
     let places : places_of records ≡ places_of others = places_alike (places_of records) (places_of others) (places_ascend records) (places_ascend others) (λ host tag. any_place host tag records ∙ any_is_positive (in_place host tag) records ∙ ap (nat_lt 0) (same host tag) ∙ sym (any_is_positive (in_place host tag) others) ∙ sym (any_place host tag others)) in
     ap (map (count_of (records_of (own_events journal owner)))) places ∙ counts_alike records others (places_of others) same
+
+-- ---- a list that tells the lengths
+
+abbrev place_listed : ChainCount → ChainPlace
+place_listed listed = record { host = listed.host; tag = listed.tag }
+
+-- a place that an ascending list without empty chains tells a count of is listed
+any_listed : (counts : List ChainCount) (host : ℕ) (tag : List ℕ) → All (λ (listed : ChainCount). 0 < listed.count) counts → list_any (is_place host tag) (map place_listed counts) ≡ nat_lt 0 (count_at counts host tag)
+any_listed [] host tag some = refl
+any_listed (listed ∷ counts) host tag some =
+    let first : nat_lt 0 listed.count ≡ true = lt-ltb 0 listed.count (All-head (λ (c : ChainCount). 0 < c.count) listed counts some) in
+    let later = any_listed counts host tag (All-tail (λ (c : ChainCount). 0 < c.count) listed counts some) in
+    elim (is_place host tag (place_listed listed)) as (λ b. (b || list_any (is_place host tag) (map place_listed counts)) ≡ nat_lt 0 (cond b listed.count (count_at counts host tag))) [
+      | true ↦ sym first
+      | false ↦ later
+    ]
+
+-- such a list tells of each listed place what is told of it alone
+listed_alone : (told : ℕ → List ℕ → ℕ) (counts : List ChainCount) → Ascends (map place_listed counts)
+    → ((host : ℕ) (tag : List ℕ) → list_any (is_place host tag) (map place_listed counts) ≡ true → count_at counts host tag ≡ told host tag)
+    → counts ≡ map (λ (place : ChainPlace). record { host = place.host; tag = place.tag; count = told place.host place.tag }) (map place_listed counts)
+listed_alone told [] up same = refl
+listed_alone told (listed ∷ counts) up same =
+    let itself : is_place listed.host listed.tag (place_listed listed) ≡ true = same_place_itself (place_listed listed) in
+    let here : listed.count ≡ told listed.host listed.tag =
+    sym (ap (λ b. cond b listed.count (count_at counts listed.host listed.tag)) itself) ∙ same listed.host listed.tag (or_left (is_place listed.host listed.tag (place_listed listed)) (list_any (is_place listed.host listed.tag) (map place_listed counts)) itself) in
+    let later = listed_alone told counts up.1 (λ host tag any.
+    let elsewhere : is_place host tag (place_listed listed) ≡ false = false_from_ne_true (is_place host tag (place_listed listed)) (λ at.
+    let names = names_place host tag (place_listed listed) at in
+    let gone : list_any (is_place host tag) (map place_listed counts) ≡ false = (λ i. list_any (is_place (sym names.0 i) (sym names.1 i)) (map place_listed counts)) ∙ not_among_later (place_listed listed) (map place_listed counts) up.0 in
+    true≢false (sym any ∙ gone)) in
+    sym (ap (λ b. cond b listed.count (count_at counts host tag)) elsewhere) ∙ same host tag (or_right (is_place host tag (place_listed listed)) (list_any (is_place host tag) (map place_listed counts)) any)) in
+    λ i. record { host = listed.host; tag = listed.tag; count = here i } ∷ later i
+
+pub status_is_determined : (journal : List Entry) (owner : ℕ) (counts : List ChainCount) → Ascends (map (λ (listed : ChainCount). record { host = listed.host; tag = listed.tag }) counts) → All (λ (listed : ChainCount). 0 < listed.count) counts
+    → ((host : ℕ) (tag : List ℕ) → count_at counts host tag ≡ length (chain journal owner host tag)) → counts ≡ status journal owner
+status_is_determined journal owner counts up some same =
+    let records = records_of (own_events journal owner) in
+    let places : map place_listed counts ≡ places_of records = places_alike (map place_listed counts) (places_of records) up (places_ascend records)
+    (λ host tag. any_listed counts host tag some ∙ ap (nat_lt 0) (same host tag) ∙ sym (any_is_positive (in_place host tag) records) ∙ sym (any_place host tag records)) in
+    listed_alone (λ host tag. length (filter (in_place host tag) records)) counts up (λ host tag any. same host tag) ∙ ap (map (count_of records)) places

@@ -3,8 +3,9 @@ use Rattle.std.specs.Prelude.{true, false, ◌≡◌, ◌≢◌, ◌++◌, ℕ, 
 use Rattle.definitions.specs.Journal.{StartedRecord}
 use Rattle.definitions.specs.Examples.{ls}
 use Rattle.record_rules.specs.Records.{SealedRecord, Caller, Entry, Event, Started, Local, Taken, record_weight, page_weight, event_weight}
-use Rattle.record_rules.specs.Journal.{chain, ChainPlace, Ascends, own_events, records_of, places_of, places_added, status, held, fits, running, StartedFits, RecordFits, EventFits, Sound}
-use Rattle.record_rules.specs.Growth.{holder, is_fresh, too_long_at, owned_with, PageTooLong, PageForked, PageGap, PageFull, taken_entry, GoOn, IsFront, grow}
+use Rattle.record_rules.specs.Journal.{chain, ChainPlace, Ascends, own_events, records_of, places_of, places_added, status, held, first_limit_passed, running, StartedFits, RecordFits, EventFits, Sound}
+use Rattle.definitions.specs.Prefixes.{IsPrefix}
+use Rattle.record_rules.specs.Growth.{holder, is_fresh, too_long_at, owned_with, PageTooLong, PageForked, PageGap, PageFull, taken_entry, GoOn, grow}
 use Rattle.record_rules.specs.Answers.{page, IsLongestFront, AskStatus, AskPage, SendPage, StatusIs, PageIs, PageAdded, PageRefused, replies}
 
 -- ---- the records and entries of the examples
@@ -51,10 +52,10 @@ pub record WorkedTotals : Type 0 where
   pub of_owner_0 : held (entry_of (Started (started_ls 7)) ∷ local_entry (Some 7) 0 11 ∷ local_entry None 1 12 ∷ []) 0 ≡ record { entries = 3; weight = 410; places = 1 }
   pub of_owner_5 : held (entry_of (Started (started_ls 7)) ∷ map (taken_entry caller 5) (kv_page 2 0)) 5 ≡ record { entries = 2; weight = 264; places = 1 }
   -- at 4,000,000 entries, at a weight of 4,294,967,296, and at 4,096 places no more of each is let in
-  pub entries_full : (journal : List Entry) (owner weight : ℕ) (place : Option ChainPlace) → length (own_events journal owner) ≡ 4000000 → fits journal owner weight place ≡ Some (record { what = 1; held = 4000000 })
-  pub weight_full : (journal : List Entry) (owner : ℕ) (place : Option ChainPlace) → length (own_events journal owner) ≡ 3999999 → sum_by event_weight (own_events journal owner) ≡ 4294967296 → fits journal owner 1 place ≡ Some (record { what = 2; held = 4294967296 })
-  pub places_full : (journal : List Entry) (owner : ℕ) (place : ChainPlace) → length (own_events journal owner) ≡ 3999999 → sum_by event_weight (own_events journal owner) ≡ 4294967168 → length (places_of (records_of (own_events journal owner))) ≡ 4096 → places_added (own_events journal owner) (Some place) ≡ 1 → fits journal owner 128 (Some place) ≡ Some (record { what = 3; held = 4096 })
-  pub just_fits : (journal : List Entry) (owner : ℕ) (place : ChainPlace) → length (own_events journal owner) ≡ 3999999 → sum_by event_weight (own_events journal owner) ≡ 4294967168 → length (places_of (records_of (own_events journal owner))) ≡ 4095 → places_added (own_events journal owner) (Some place) ≡ 1 → fits journal owner 128 (Some place) ≡ None
+  pub entries_full : (journal : List Entry) (owner weight : ℕ) (place : Option ChainPlace) → length (own_events journal owner) ≡ 4000000 → first_limit_passed journal owner weight place ≡ Some (record { what = 1; held = 4000000 })
+  pub weight_full : (journal : List Entry) (owner : ℕ) (place : Option ChainPlace) → length (own_events journal owner) ≡ 3999999 → sum_by event_weight (own_events journal owner) ≡ 4294967296 → first_limit_passed journal owner 1 place ≡ Some (record { what = 2; held = 4294967296 })
+  pub places_full : (journal : List Entry) (owner : ℕ) (place : ChainPlace) → length (own_events journal owner) ≡ 3999999 → sum_by event_weight (own_events journal owner) ≡ 4294967168 → length (places_of (records_of (own_events journal owner))) ≡ 4096 → places_added (own_events journal owner) (Some place) ≡ 1 → first_limit_passed journal owner 128 (Some place) ≡ Some (record { what = 3; held = 4096 })
+  pub just_fits : (journal : List Entry) (owner : ℕ) (place : ChainPlace) → length (own_events journal owner) ≡ 3999999 → sum_by event_weight (own_events journal owner) ≡ 4294967168 → length (places_of (records_of (own_events journal owner))) ≡ 4095 → places_added (own_events journal owner) (Some place) ≡ 1 → first_limit_passed journal owner 128 (Some place) ≡ None
 
 -- texts and weights at their limits, and one byte above
 pub record WorkedLimits : Type 0 where
@@ -140,10 +141,10 @@ pub record WorkedFronts : Type 0 where
   pub other_tag : GoOn 2 (codes "history") 3 (kv_page 3 3) → ⊥
   pub leaves_one : GoOn 2 (codes "kv") 3 (kv_record 3 1003 ∷ kv_record 5 1005 ∷ []) → ⊥
   -- two of three are a front, three of two aren't, and neither is what begins later
-  pub front : IsFront (kv_page 2 0) (kv_page 3 0)
-  pub whole : IsFront (kv_page 3 0) (kv_page 3 0)
-  pub longer : IsFront (kv_page 3 0) (kv_page 2 0) → ⊥
-  pub later : IsFront (kv_page 1 1) (kv_page 3 0) → ⊥
+  pub front : IsPrefix (kv_page 2 0) (kv_page 3 0)
+  pub whole : IsPrefix (kv_page 3 0) (kv_page 3 0)
+  pub longer : IsPrefix (kv_page 3 0) (kv_page 2 0) → ⊥
+  pub later : IsPrefix (kv_page 1 1) (kv_page 3 0) → ⊥
   -- each weighs 132: within 264 are two, and within a byte less one; all where there is room for more
   pub two : IsLongestFront 264 (kv_page 3 0) (kv_page 2 0)
   pub one : IsLongestFront 263 (kv_page 3 0) (kv_page 1 0)

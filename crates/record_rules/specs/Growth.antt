@@ -18,20 +18,20 @@ pub data PageRefusal : Type 0 where
   PageFull : PassedLimit → PageRefusal
 
 -- whether the other record has this record's host, tag and idx
-abbrev pub same_spot : SealedRecord → SealedRecord → Bool
-same_spot r other = in_place r.host r.tag other && other.idx == r.idx
+abbrev pub same_place : SealedRecord → SealedRecord → Bool
+same_place r other = in_place r.host r.tag other && other.idx == r.idx
 
 -- the first of the records at this record's host, tag and idx
 abbrev pub holder : List SealedRecord → SealedRecord → Option SealedRecord
-holder records r = find (same_spot r) records
+holder records r = find (same_place r) records
 
 -- a record is fresh where none of those has its host, tag and idx
 abbrev pub is_fresh : List SealedRecord → SealedRecord → Bool
-is_fresh records r = not (list_any (same_spot r) records)
+is_fresh records r = not (list_any (same_place r) records)
 
 -- a record stands among those where its host, tag and idx are held with its id
-abbrev pub Stands : List SealedRecord → SealedRecord → Type 0
-Stands records r = option_map (λ other. other.id) (holder records r) ≡ Some r.id
+abbrev pub IsHeld : List SealedRecord → SealedRecord → Type 0
+IsHeld records r = option_map (λ other. other.id) (holder records r) ≡ Some r.id
 
 -- the records of the page that are fresh beside those and beside the earlier ones of the page, in order
 abbrev pub fresh_of : List SealedRecord → List SealedRecord → List SealedRecord
@@ -110,10 +110,6 @@ growth_of caller owner owned page = batch_or (map (taken_entry caller owner) (fr
 abbrev pub GoOn : ℕ → List ℕ → ℕ → List SealedRecord → Type 0
 GoOn host tag idx [] = ⊤
 GoOn host tag idx (r ∷ records) = (r.host ≡ host) × (r.tag ≡ tag) × (r.idx ≡ idx) × GoOn host tag (idx + 1) records
-
--- the list is a front of the other one
-abbrev pub IsFront : List SealedRecord → List SealedRecord → Type 0
-IsFront front records = front ≡ take (length front) records
 
 -- what the page does for the owner at this journal
 abbrev pub grow : List Entry → Caller → ℕ → List SealedRecord → Result (List Entry) PageRefusal

@@ -1,4 +1,5 @@
 -- A journal is a list of entries, oldest first. This module says what an owner holds in it, what runs, and when it is sound.
+-- All of this is told by what the entries say, and by nothing of whose calls they came by.
 use Rattle.std.specs.Prelude.{◌≡◌, ◌≢◌, ℕ, ◌+◌, ◌<◌, ◌≤◌, ◌&&◌, Bool, false, List, [], ◌∷◌, length, map, filter, filter_map, take, sum_by, slice_get, All, Option, Some, None, IfSome, IsTrue, if◌then◌else◌, ◌==◌, nat_lt, bytes_eq, ⊤}
 use Rattle.std.specs.List.{list_any, AllByRecursion}
 use Rattle.std.specs.Option.{option_or}
@@ -24,9 +25,12 @@ event_record (Started s) = None
 event_record (Local closes r) = Some r
 event_record (Taken owner r) = Some r
 
--- whether the owner owns the entry
+-- whether the owner owns the event, and the entry that says it
+abbrev pub is_owned_by : ℕ → Event → Bool
+is_owned_by owner event = event_owner event == owner
+
 abbrev pub owned_by : ℕ → Entry → Bool
-owned_by owner entry = event_owner entry.event == owner
+owned_by owner entry = is_owned_by owner entry.event
 
 -- the entries that the owner owns, in order
 abbrev pub own : List Entry → ℕ → List Entry
@@ -36,9 +40,13 @@ own journal owner = filter (owned_by owner) journal
 abbrev pub events_of : List Entry → List Event
 events_of entries = map (λ entry. entry.event) entries
 
+-- those of these events that the owner owns, in order
+abbrev pub own_of : List Event → ℕ → List Event
+own_of events owner = filter (is_owned_by owner) events
+
 -- what the owner's entries say
 abbrev pub own_events : List Entry → ℕ → List Event
-own_events journal owner = events_of (own journal owner)
+own_events journal owner = own_of (events_of journal) owner
 
 -- the records of the events, in order
 abbrev pub records_of : List Event → List SealedRecord
@@ -51,8 +59,11 @@ abbrev pub in_place : ℕ → List ℕ → SealedRecord → Bool
 in_place host tag r = r.host == host && bytes_eq r.tag tag
 
 -- the owner's records of one host and tag, in order
+abbrev pub chain_of : List Event → ℕ → ℕ → List ℕ → List SealedRecord
+chain_of events owner host tag = filter (in_place host tag) (records_of (own_of events owner))
+
 abbrev pub chain : List Entry → ℕ → ℕ → List ℕ → List SealedRecord
-chain journal owner host tag = filter (in_place host tag) (records_of (own_events journal owner))
+chain journal owner host tag = chain_of (events_of journal) owner host tag
 
 -- a place of an owner, which holds one chain
 pub record ChainPlace : Type 0 where
@@ -142,8 +153,8 @@ abbrev pub limit_passed : List Event → ℕ → Option ChainPlace → Option Pa
 limit_passed events weight place = option_or (entries_passed events) (option_or (weight_passed events weight) (places_passed events place))
 
 -- the first limit of the owner that one more entry of this weight and place would pass, or none
-abbrev pub fits : List Entry → ℕ → ℕ → Option ChainPlace → Option PassedLimit
-fits journal owner weight place = limit_passed (own_events journal owner) weight place
+abbrev pub first_limit_passed : List Entry → ℕ → ℕ → Option ChainPlace → Option PassedLimit
+first_limit_passed journal owner weight place = limit_passed (own_events journal owner) weight place
 
 -- ---- what runs
 
@@ -207,20 +218,24 @@ pub record TotalsFit (held : Totals) : Type 0 where
   pub weight : held.weight ≤ most_held_weight
   pub places : held.places ≤ most_places
 
--- the journal is sound for the store of this host
-pub record Sound (journal : List Entry) (host : ℕ) : Type 0 where
+-- the events are sound for the store of this host
+pub record SoundEvents (events : List Event) (host : ℕ) : Type 0 where
   -- the k-th record of each chain has idx k
-  pub numbered : (owner origin : ℕ) (tag : List ℕ) → IsNumbered (chain journal owner origin tag)
+  pub numbered : (owner origin : ℕ) (tag : List ℕ) → IsNumbered (chain_of events owner origin tag)
   -- the records that were made here have this host
-  pub made_here : All (IsOfHost host) (events_of journal)
-  -- an entry closes only an id that is running among the entries before it
-  pub closes_running : (k closed : ℕ) (r : SealedRecord) → slice_get (events_of journal) k ≡ Some (Local (Some closed) r) → IsTrue (is_running closed (take k (events_of journal)))
+  pub made_here : All (IsOfHost host) events
+  -- an event closes only an id that is running among the events before it
+  pub closes_running : (k closed : ℕ) (r : SealedRecord) → slice_get events k ≡ Some (Local (Some closed) r) → IsTrue (is_running closed (take k events))
   -- the ids of two started commands differ
-  pub started_apart : (i k : ℕ) (s t : StartedRecord) → i < k → slice_get (events_of journal) i ≡ Some (Started s) → slice_get (events_of journal) k ≡ Some (Started t) → s.id ≢ t.id
+  pub started_apart : (i k : ℕ) (s t : StartedRecord) → i < k → slice_get events i ≡ Some (Started s) → slice_get events k ≡ Some (Started t) → s.id ≢ t.id
   -- texts and weights are within their limits
-  pub events_fit : All EventFits (events_of journal)
+  pub events_fit : All EventFits events
   -- what each owner holds is within the limits
-  pub held_fits : (owner : ℕ) → TotalsFit (held journal owner)
+  pub held_fits : (owner : ℕ) → TotalsFit (held_of (own_of events owner))
+
+-- a journal is sound where what its entries say is
+abbrev pub Sound : List Entry → ℕ → Type 0
+Sound journal host = SoundEvents (events_of journal) host
 
 -- ---- one more entry
 
@@ -230,11 +245,15 @@ event_place (Started s) = None
 event_place (Local closes r) = Some (record { host = r.host; tag = r.tag })
 event_place (Taken owner r) = Some (record { host = r.host; tag = r.tag })
 
--- the event may be the next one of a sound journal
-pub record MayFollow (journal : List Entry) (host : ℕ) (event : Event) : Type 0 where
-  pub numbered : IfSome (event_record event) (λ r. r.idx ≡ length (chain journal (event_owner event) r.host r.tag))
+-- the event may be the next one behind sound events
+pub record MayComeNext (events : List Event) (host : ℕ) (event : Event) : Type 0 where
+  pub numbered : IfSome (event_record event) (λ r. r.idx ≡ length (chain_of events (event_owner event) r.host r.tag))
   pub made_here : IsOfHost host event
-  pub closes_running : (closed : ℕ) → IsTrue (closes_id closed event) → IsTrue (is_running closed (events_of journal))
-  pub started_apart : (k : ℕ) (s t : StartedRecord) → slice_get (events_of journal) k ≡ Some (Started s) → event ≡ Started t → s.id ≢ t.id
+  pub closes_running : (closed : ℕ) → IsTrue (closes_id closed event) → IsTrue (is_running closed events)
+  pub started_apart : (k : ℕ) (s t : StartedRecord) → slice_get events k ≡ Some (Started s) → event ≡ Started t → s.id ≢ t.id
   pub event_fits : EventFits event
-  pub held_fits : fits journal (event_owner event) (event_weight event) (event_place event) ≡ None
+  pub held_fits : limit_passed (own_of events (event_owner event)) (event_weight event) (event_place event) ≡ None
+
+-- an entry that says it may be the next one of a sound journal
+abbrev pub MayFollow : List Entry → ℕ → Event → Type 0
+MayFollow journal host event = MayComeNext (events_of journal) host event

@@ -1,9 +1,12 @@
 -- The laws of the journal, of growth and of answers, as statements. Each is the contract of the function of its name.
-use Rattle.std.specs.Prelude.{◌≡◌, ◌≢◌, ℕ, ◌<◌, ◌≤◌, ◌⊎◌, List, [], ◌∷◌, ◌++◌, length, map, filter, take, drop, min, All, None, Ok, Err}
+use Rattle.std.specs.Prelude.{◌≡◌, ◌≢◌, ℕ, ◌+◌, ◌<◌, ◌≤◌, ◌⊎◌, ◌&&◌, not, List, [], ◌∷◌, ◌++◌, length, map, filter, take, drop, min, All, None, Ok, Err, if◌then◌else◌}
 use Rattle.record_rules.specs.Limits.{most_page_records, most_page_weight}
-use Rattle.record_rules.specs.Records.{SealedRecord, Caller, Entry, Taken, page_weight}
-use Rattle.record_rules.specs.Journal.{own, own_events, records_of, in_place, chain, IsNumbered, TotalsFit, held_of, Ascends, status, count_at, Sound, MayFollow}
-use Rattle.record_rules.specs.Growth.{PageRefusal, PageTooLong, PageForked, IsFront, Stands, GoOn, taken_entry, fresh_of, first_too_long, batch_or, grow, grown}
+use Rattle.record_rules.specs.Records.{SealedRecord, Caller, Entry, Event, Taken, page_weight}
+use Rattle.record_rules.specs.Journal.{own, own_events, records_of, in_place, chain, IsNumbered, ChainCount, TotalsFit, held_of, held, running, Ascends, status, count_at, Sound, MayFollow}
+use Rattle.record_rules.specs.OneMore.{own_with, chain_with, running_with, held_with}
+use Rattle.definitions.specs.Prefixes.{IsPrefix}
+use Rattle.record_rules.specs.Growth.{PageRefusal, PageTooLong, PageForked, same_place, is_fresh, IsHeld, GoOn, taken_entry, fresh_of, wanted_idx, first_too_long, batch_or, grow, grown}
+use Rattle.record_rules.specs.InTurn.{nothing_taken, take_records, batch_of}
 use Rattle.record_rules.specs.Answers.{page, IsLongestFront, OwnerRequest, reply_to, OwnerAsked, replies, asked_by, told_to}
 
 -- a journal without entries is sound
@@ -36,6 +39,52 @@ StatusAscends = (journal : List Entry) (owner : ℕ) → Ascends (map (λ listed
 -- owners whose chains are as long have one status
 abbrev pub LengthsMakeStatus : Type 0
 LengthsMakeStatus = (journal other : List Entry) (owner whose : ℕ) → ((host : ℕ) (tag : List ℕ) → length (chain journal owner host tag) ≡ length (chain other whose host tag)) → status journal owner ≡ status other whose
+
+-- and those lengths alone make it: a list in that order, without an empty chain, that tells each length is the status
+abbrev pub StatusIsDetermined : Type 0
+StatusIsDetermined = (journal : List Entry) (owner : ℕ) (counts : List ChainCount) → Ascends (map (λ listed. record { host = listed.host; tag = listed.tag }) counts) → All (λ listed. 0 < listed.count) counts
+    → ((host : ℕ) (tag : List ℕ) → count_at counts host tag ≡ length (chain journal owner host tag)) → counts ≡ status journal owner
+
+-- ---- one more entry, and one more record of a page
+
+-- what an owner holds behind one more entry
+abbrev pub OwnWithOne : Type 0
+OwnWithOne = (journal : List Entry) (entry : Entry) (owner : ℕ) → own_events (journal ++ entry ∷ []) owner ≡ own_with owner (own_events journal owner) entry.event
+
+-- each chain
+abbrev pub ChainWithOne : Type 0
+ChainWithOne = (journal : List Entry) (entry : Entry) (owner host : ℕ) (tag : List ℕ) → chain (journal ++ entry ∷ []) owner host tag ≡ chain_with owner host tag (chain journal owner host tag) entry.event
+
+-- what runs
+abbrev pub RunningWithOne : Type 0
+RunningWithOne = (journal : List Entry) (entry : Entry) → running (journal ++ entry ∷ []) ≡ running_with (running journal) entry.event
+
+-- what counts against an owner's limits
+abbrev pub HeldWithOne : Type 0
+HeldWithOne = (journal : List Entry) (entry : Entry) (owner : ℕ) → held (journal ++ entry ∷ []) owner ≡ held_with owner (own_events journal owner) entry.event
+
+-- what a status tells of each place
+abbrev pub CountWithOne : Type 0
+CountWithOne = (journal : List Entry) (entry : Entry) (owner host : ℕ) (tag : List ℕ) → count_at (status (journal ++ entry ∷ []) owner) host tag ≡ length (chain_with owner host tag (chain journal owner host tag) entry.event)
+
+-- which records are fresh beside one more
+abbrev pub FreshWithOne : Type 0
+FreshWithOne = (records : List SealedRecord) (r other : SealedRecord) → is_fresh (records ++ r ∷ []) other ≡ (is_fresh records other && not (same_place other r))
+
+-- the fresh records of a page with one more
+abbrev pub FreshOfWithOne : Type 0
+FreshOfWithOne = (records page : List SealedRecord) (r : SealedRecord) → fresh_of records (page ++ r ∷ []) ≡ (if is_fresh (records ++ page) r then fresh_of records page ++ r ∷ [] else fresh_of records page)
+
+-- and the idx that is wanted next, which each fresh record of the chain raises
+abbrev pub WantedWithOne : Type 0
+WantedWithOne = (owned : List Event) (page : List SealedRecord) (r next : SealedRecord)
+    → wanted_idx owned (page ++ r ∷ []) next ≡ (if is_fresh (records_of owned ++ page) r && in_place next.host next.tag r then wanted_idx owned page next + 1 else wanted_idx owned page next)
+
+-- a page taken record by record is the growth that is told of it as a whole
+abbrev pub GrowthIsInTurn : Type 0
+GrowthIsInTurn = (journal : List Entry) (caller : Caller) (owner : ℕ) (records : List SealedRecord) → batch_of caller owner (take_records owner (own_events journal owner) nothing_taken records) ≡ grow journal caller owner records
+
+-- ---- pages
 
 -- a page is the longest front within its weight of the next records, at most `count` and at most 100 of them
 abbrev pub PageIsLongest : Type 0
@@ -71,7 +120,7 @@ GrowthLeavesOthers = (journal : List Entry) (caller : Caller) (owner other : ℕ
 
 -- after a page was taken each of its records stands
 abbrev pub GrowthHoldsPage : Type 0
-GrowthHoldsPage = (journal : List Entry) (caller : Caller) (owner : ℕ) (records : List SealedRecord) (batch : List Entry) → grow journal caller owner records ≡ Ok batch → All (Stands (records_of (own_events (journal ++ batch) owner))) records
+GrowthHoldsPage = (journal : List Entry) (caller : Caller) (owner : ℕ) (records : List SealedRecord) (batch : List Entry) → grow journal caller owner records ≡ Ok batch → All (IsHeld (records_of (own_events (journal ++ batch) owner))) records
 
 -- a page that was taken is taken again and adds nothing, in whoever's call
 abbrev pub RepeatAddsNothing : Type 0
@@ -79,7 +128,7 @@ RepeatAddsNothing = (journal : List Entry) (first again : Caller) (owner : ℕ) 
 
 -- a page whose records all stand adds nothing, and only its own length, weight and texts can refuse it
 abbrev pub StandingAddsNothing : Type 0
-StandingAddsNothing = (journal : List Entry) (caller : Caller) (owner : ℕ) (records : List SealedRecord) → All (Stands (records_of (own_events journal owner))) records → grow journal caller owner records ≡ batch_or [] (first_too_long [] records)
+StandingAddsNothing = (journal : List Entry) (caller : Caller) (owner : ℕ) (records : List SealedRecord) → All (IsHeld (records_of (own_events journal owner))) records → grow journal caller owner records ≡ batch_or [] (first_too_long [] records)
 
 -- an owner is told the same at two journals in which it holds the same
 abbrev pub RepliesAlike : Type 0
@@ -97,11 +146,11 @@ RepliesAsAlone = (owner : ℕ) (requests : List OwnerAsked) (journal : List Entr
 
 -- such a page is never refused as a fork
 abbrev pub SliceNeverForks : Type 0
-SliceNeverForks = (journal : List Entry) (caller : Caller) (owner host : ℕ) (tag : List ℕ) (origin : List SealedRecord) (start count position id : ℕ) → GoOn host tag 0 origin → IsFront (chain journal owner host tag) origin → grow journal caller owner (take count (drop start origin)) ≡ Err (PageForked position id) → ⊥
+SliceNeverForks = (journal : List Entry) (caller : Caller) (owner host : ℕ) (tag : List ℕ) (origin : List SealedRecord) (start count position id : ℕ) → GoOn host tag 0 origin → IsPrefix (chain journal owner host tag) origin → grow journal caller owner (take count (drop start origin)) ≡ Err (PageForked position id) → ⊥
 
 -- and where it is taken, the owner's chain is still a front of the origin
 abbrev pub SliceKeepsFront : Type 0
-SliceKeepsFront = (journal : List Entry) (of_host : ℕ) (caller : Caller) (owner host : ℕ) (tag : List ℕ) (origin : List SealedRecord) (start count : ℕ) (batch : List Entry) → Sound journal of_host → GoOn host tag 0 origin → IsFront (chain journal owner host tag) origin → grow journal caller owner (take count (drop start origin)) ≡ Ok batch → IsFront (chain (journal ++ batch) owner host tag) origin
+SliceKeepsFront = (journal : List Entry) (of_host : ℕ) (caller : Caller) (owner host : ℕ) (tag : List ℕ) (origin : List SealedRecord) (start count : ℕ) (batch : List Entry) → Sound journal of_host → GoOn host tag 0 origin → IsPrefix (chain journal owner host tag) origin → grow journal caller owner (take count (drop start origin)) ≡ Ok batch → IsPrefix (chain (journal ++ batch) owner host tag) origin
 
 -- and the owner's other chains stay as they were
 abbrev pub SliceLeavesOtherChains : Type 0

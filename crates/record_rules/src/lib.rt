@@ -10,7 +10,7 @@
 //! the crate takes what a started command is.
 #![tactic(auto)]
 
-ghost use Rattle.record_rules.specs.Laws.{EmptyIsSound, EntryKeepsSound, SoundEntryFollows, FrontIsSound, StatusTellsLengths, StatusListsNoEmpty, StatusAscends, LengthsMakeStatus, PageIsLongest, GrowthKeepsSound, RefusalLeavesAll, TakenPageFits, NextPageIsTaken, RecordsPastHundred, GrowthExtendsChains, GrowthLeavesOthers, GrowthHoldsPage, RepeatAddsNothing, StandingAddsNothing, RepliesAlike, RepliesAlone, RepliesAsAlone, SliceNeverForks, SliceKeepsFront, SliceLeavesOtherChains};
+ghost use Rattle.record_rules.specs.Laws.{EmptyIsSound, EntryKeepsSound, SoundEntryFollows, FrontIsSound, StatusTellsLengths, StatusListsNoEmpty, StatusAscends, LengthsMakeStatus, StatusIsDetermined, OwnWithOne, ChainWithOne, RunningWithOne, HeldWithOne, CountWithOne, FreshWithOne, FreshOfWithOne, WantedWithOne, GrowthIsInTurn, PageIsLongest, GrowthKeepsSound, RefusalLeavesAll, TakenPageFits, NextPageIsTaken, RecordsPastHundred, GrowthExtendsChains, GrowthLeavesOthers, GrowthHoldsPage, RepeatAddsNothing, StandingAddsNothing, RepliesAlike, RepliesAlone, RepliesAsAlone, SliceNeverForks, SliceKeepsFront, SliceLeavesOtherChains};
 ghost use Rattle.record_rules.specs.Examples.{WorkedTotals, WorkedLimits, WorkedStatus, WorkedRunning, WorkedPages, WorkedFronts, WorkedHundred, WorkedFull, WorkedSound, WorkedUnsound, WorkedOwners};
 
 /// A journal without entries is sound.
@@ -53,6 +53,35 @@ pub fn status_ascends()
 /// records came.
 pub fn lengths_make_status()
     ensures { LengthsMakeStatus }
+{}
+
+/// Those lengths alone make it: a list in order of host, then of the tag's bytes, that lists no empty
+/// chain and tells the length of each, is the status.
+pub fn lengths_are_the_status()
+    ensures { StatusIsDetermined }
+{}
+
+/// What one more entry makes of what each owner holds, of each chain, of what runs, of the totals and of
+/// what a status tells.
+pub fn one_more_entry()
+    ensures own { OwnWithOne }
+    ensures chain { ChainWithOne }
+    ensures running { RunningWithOne }
+    ensures held { HeldWithOne }
+    ensures count { CountWithOne }
+{}
+
+/// What one more record of a page makes of what is fresh beside it, of the fresh ones so far, and of the
+/// idx that is wanted next.
+pub fn one_more_record()
+    ensures fresh { FreshWithOne }
+    ensures fresh_of { FreshOfWithOne }
+    ensures wanted { WantedWithOne }
+{}
+
+/// A page taken record by record, as code takes it, is the growth that is told of the whole page.
+pub fn growth_is_in_turn()
+    ensures { GrowthIsInTurn }
 {}
 
 /// A page is the longest front, within 4,194,304 bytes of weight, of the chain's next records, at most

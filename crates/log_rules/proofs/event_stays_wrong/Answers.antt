@@ -1,0 +1,5 @@
+use Rattle.log_rules.proofs.Bodies.{event_stays_wrong}
+use Rattle.log_rules.proofs.event_stays_wrong.Goals as goal
+
+pub returns : goal.returns
+returns c = event_stays_wrong

@@ -91,11 +91,11 @@ kind a_nil = 4
 abbrev kind_at : ℕ → ℕ
 kind_at b = cond (ltb b 0x80) 0 (cond (ltb b 0xa0) 2 (cond (ltb b 0xc0) 1 (cond (ltb b 0xc4) 4 (cond (ltb b 0xcc) 3 (cond (ltb b 0xd9) 0 (cond (ltb b 0xdc) 1 (cond (ltb b 0xe0) 2 0)))))))
 
-record Begins (item : Item) (bytes : List ℕ) : Type 0 where
-  first : ℕ
-  rest : List ℕ
-  parts : bytes ≡ first ∷ rest
-  tells : kind_at first ≡ kind item
+pub record Begins (item : Item) (bytes : List ℕ) : Type 0 where
+  pub first : ℕ
+  pub rest : List ℕ
+  pub parts : bytes ≡ first ∷ rest
+  pub tells : kind_at first ≡ kind item
 
 integer_begins : (form : IntegerForm) (z : ℤ) → FitsInteger form z → Begins (an_integer z) (integer_bytes form z)
 integer_begins positive_fixint (pos n) lt = record { first = n % 256; rest = []; parts = refl; tells = let low : n % 256 < 128 = omega arith in grind (arith, nat_tests) }
@@ -133,7 +133,7 @@ bin_begins bin_8 n held = record { first = 0xc4; rest = _; parts = refl; tells =
 bin_begins bin_16 n held = record { first = 0xc5; rest = _; parts = refl; tells = refl }
 bin_begins bin_32 n held = record { first = 0xc6; rest = _; parts = refl; tells = refl }
 
-item_begins : (item : Item) (bytes : List ℕ) → SpellsItem item bytes → Begins item bytes
+pub item_begins : (item : Item) (bytes : List ℕ) → SpellsItem item bytes → Begins item bytes
 item_begins (an_integer z) bytes s = subst (Begins (an_integer z)) (sym s.2) (integer_begins s.0 z s.1)
 item_begins (a_text text) bytes s = subst (Begins (a_text text)) (sym s.are) (text_begins s.form (length text) text s.fits)
 item_begins (an_array n) bytes s = subst (Begins (an_array n)) (sym s.2) (array_begins s.0 n s.1)

@@ -1,10 +1,10 @@
 //! The laws of payloads. Each is a function that does nothing, whose contract is the law.
 
-ghost use Rattle.std.specs.Prelude.{◌≡◌, ℕ, List, ◌++◌, Some};
+ghost use Rattle.std.specs.Prelude.{◌≡◌, ◌↔◌, ℕ, List, ◌++◌, Some};
 ghost use Rattle.definitions.specs.Spelling.{IsBytes};
 ghost use Rattle.payload_rules.specs.Items.{Item, SpellsItem, SpellsBin};
-ghost use Rattle.payload_rules.specs.Payloads.{Payload, PayloadOf, PayloadFits, TextsFit, tag_of, payload_version, written_payload};
-ghost use Rattle.payload_rules.specs.Reading.{bin_at};
+ghost use Rattle.payload_rules.specs.Payloads.{Payload, PayloadOf, PayloadFits, TextsFit, tag_of, version_text, payload_version, written_payload};
+ghost use Rattle.payload_rules.specs.Reading.{bin_at, payload_at};
 ghost use Rattle.payload_rules.specs.Examples.{WorkedCreation, WorkedItems, WorkedPayloads, WorkedRanges};
 
 /// No spelling of an item begins another one, of whichever kind: the first byte tells the kind, and the
@@ -31,13 +31,19 @@ pub fn no_payload_begins_another()
     ensures { (tag version a b x y : List ℕ) (p q : Payload) → PayloadOf tag version a p → PayloadOf tag version b q → a ++ x ≡ b ++ y → (a ≡ b) × (p ≡ q) }
 {}
 
-/// What is written for a payload spells it, where its numbers are in range, its texts are UTF-8 and no
-/// length passes 32 bits.
-pub fn what_is_written_is_spelled()
-    ensures { (payload : Payload) → PayloadFits payload → TextsFit payload → PayloadOf (tag_of payload) payload_version (written_payload payload) payload }
+/// The payload that the bytes of a record with a tag and a version hold is computed: reading finds it exactly where the
+/// bytes spell it, in whatever widths, and finds nothing where they spell none.
+pub fn reading_finds_the_payload()
+    ensures { (tag version bytes : List ℕ) (payload : Payload) → IsBytes bytes → (payload_at tag version bytes ≡ Some payload) ↔ PayloadOf tag version bytes payload }
 {}
 
-/// A command that ended, in the 68 bytes that are written for it, and what is no payload.
+/// What is written for a payload spells it, in the version of the payload, where its numbers are in range, its texts are UTF-8 and no
+/// length passes 32 bits.
+pub fn what_is_written_is_spelled()
+    ensures { (payload : Payload) → PayloadFits payload → TextsFit payload → PayloadOf (tag_of payload) (version_text (payload_version payload)) (written_payload payload) payload }
+{}
+
+/// A command that ended, in the 68 bytes that are written for it, or with an author in 71, and what is no payload.
 pub fn worked_creation()
     ensures { WorkedCreation }
 {}

@@ -9,7 +9,7 @@ use Rattle.std.proofs.lemmas.List.Folds.{list_any-append}
 use Rattle.std.proofs.lemmas.Option.{same_Some, none-some}
 use Rattle.definitions.proofs.Among.{Among, Among-from_place, Contains-from_Among, InOrder, one_order}
 use Rattle.record_rules.specs.Journal.{ChainPlace, ChainCount, place_cmp, Ascends, is_count_of, count_at}
-use Rattle.record_rules.proofs.Status.{is_place, place_total, same_place, not_among_later}
+use Rattle.record_rules.proofs.Status.{is_place, place_total, names_place, not_among_later}
 use Rattle.plan_rules.specs.Plans.{PlanStep, Upload, Download, step_place, step_between, places_listed, step_at, plan}
 use Rattle.plan_rules.specs.Laws.{local_end, remote_end, or_count, count_after, Levelled}
 use Rattle.plan_rules.proofs.Places.{listed_ascend, any_listed, not_counted}
@@ -56,7 +56,7 @@ remote_levels place m n =
 -- ---- the steps of places
 
 at_place : (host : ℕ) (tag : List ℕ) (place : ChainPlace) → is_place host tag place ≡ true → place ≡ record { host = host; tag = tag }
-at_place host tag place here = let same = same_place host tag place here in λ i. record { host = same.0 i; tag = same.1 i }
+at_place host tag place here = let same = names_place host tag place here in λ i. record { host = same.0 i; tag = same.1 i }
 
 module _ (asks : ChainPlace → Option PlanStep) (own : (place : ChainPlace) (step : PlanStep) → asks place ≡ Some step → step_place step ≡ place) where
   asked_by : (places : List ChainPlace) (step : PlanStep) → Among step (filter_map asks places) → (place : ChainPlace) × (asks place ≡ Some step)
@@ -114,7 +114,7 @@ module _ (asks : ChainPlace → Option PlanStep) (own : (place : ChainPlace) (st
     steps_end (place ∷ places) count ascends =
         first_end place (filter_map asks places) count ∙ steps_end places (cond (is_place host tag place) (end_after end_of (asks place) count) count) ascends.1 ∙ elim (cases_Bool (is_place host tag place)) [
           | inl here ↦
-              let at = same_place host tag place here in
+              let at = names_place host tag place here in
               let gone : list_any (is_place host tag) places ≡ false = (λ i. list_any (is_place (sym at.0 i) (sym at.1 i)) places) ∙ not_among_later place places ascends.0 in
               rw (here, gone) (ap (λ (p : ChainPlace). end_after end_of (asks p) count) (at_place host tag place here))
           | inr elsewhere ↦ rw elsewhere refl
@@ -202,6 +202,13 @@ counts_make_plan local remote one other locals remotes =
     (in_order (plan local remote) (plan_ascends local remote)) (in_order (plan one other) (plan_ascends one other))
     (λ step m. plan_has one other step (sym (same (step_place step)) ∙ step_in_plan local remote step m))
     (λ step m. plan_has local remote step (same (step_place step) ∙ step_in_plan one other step m))
+
+-- what is in order and has each step that is asked for is the plan
+pub steps_are_plan : (local remote : List ChainCount) (steps : List PlanStep) → Ascends (map step_place steps) → ((step : PlanStep) → Contains steps step ↔ (step_at local remote (step_place step) ≡ Some step)) → steps ≡ plan local remote
+steps_are_plan local remote steps up asked =
+    one_order PlanStep StandsBefore strict steps (plan local remote) (in_order steps up) (in_order (plan local remote) (plan_ascends local remote))
+    (λ step m. plan_has local remote step ((asked step).0 (Contains-from_Among PlanStep steps step m)))
+    (λ step m. let c = (asked step).1 (step_in_plan local remote step m) in Among-from_place PlanStep steps step c.0 c.1 c.2)
 
 -- nothing is in an empty list alone
 pub equal_counts : (local remote : List ChainCount) → ((host : ℕ) (tag : List ℕ) → count_at local host tag ≡ count_at remote host tag) → plan local remote ≡ []

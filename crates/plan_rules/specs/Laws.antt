@@ -12,6 +12,10 @@ PlanAscends = (local remote : List ChainCount) → Ascends (map step_place (plan
 abbrev pub PlanHasEachStep : Type 0
 PlanHasEachStep = (local remote : List ChainCount) (step : PlanStep) → Contains (plan local remote) step ↔ (step_at local remote (step_place step) ≡ Some step)
 
+-- and only the plan is such a list: steps in that order, of which each place has the one that its counts ask for, and no other
+abbrev pub StepsAreThePlan : Type 0
+StepsAreThePlan = (local remote : List ChainCount) (steps : List PlanStep) → Ascends (map step_place steps) → ((step : PlanStep) → Contains steps step ↔ (step_at local remote (step_place step) ≡ Some step)) → steps ≡ plan local remote
+
 -- statuses that tell the same counts have one plan
 abbrev pub CountsMakePlan : Type 0
 CountsMakePlan = (local remote one other : List ChainCount) → ((host : ℕ) (tag : List ℕ) → count_at local host tag ≡ count_at one host tag) → ((host : ℕ) (tag : List ℕ) → count_at remote host tag ≡ count_at other host tag) → plan local remote ≡ plan one other

@@ -6,7 +6,7 @@
 //! name says.
 #![tactic(auto)]
 
-ghost use Rattle.plan_rules.specs.Laws.{PlanAscends, PlanHasEachStep, CountsMakePlan, EqualCountsNeedNothing, PlanLevels};
+ghost use Rattle.plan_rules.specs.Laws.{PlanAscends, PlanHasEachStep, StepsAreThePlan, CountsMakePlan, EqualCountsNeedNothing, PlanLevels};
 ghost use Rattle.plan_rules.specs.Examples.{WorkedPlans};
 
 /// The steps of a plan are in order of host, then of the tag's bytes, and no place has two.
@@ -17,6 +17,12 @@ pub fn a_plan_ascends()
 /// A plan has a step of a place exactly where the place's counts ask for that step.
 pub fn a_plan_has_each_step()
     ensures { PlanHasEachStep }
+{}
+
+/// Only the plan is such a list: steps in that order that have of each place the step that its counts ask
+/// for, and no other, are the plan.
+pub fn such_steps_are_the_plan()
+    ensures { StepsAreThePlan }
 {}
 
 /// Statuses that tell the same count of each place have one plan, however they are listed.

@@ -1,9 +1,11 @@
+pub mod Records
 pub mod Sets
-pub mod Chains
+pub mod Standings
+pub mod Settings
 pub mod Ones
 pub mod Searches
-pub mod Latest
 pub mod Lists
 pub mod Examples
+pub mod Alone
 pub mod ListExamples
 pub mod ViewExamples

@@ -10,7 +10,7 @@ use Rattle.record_rules.proofs.Members.{Has}
 use Rattle.definitions.specs.Search.{FitsPage}
 use Rattle.view_rules.specs.Answers.{Named, named_bytes, Rises, IsAbove, IsListOf}
 use Rattle.view_rules.specs.Examples.{named, is_one_of_three, WorkedLists}
-use Rattle.view_rules.proofs.Chains.{Has-from_Contains, Contains-from_Has}
+use Rattle.view_rules.proofs.Records.{Has-from_Contains, Contains-from_Has}
 
 abbrev a : Named
 a = named (codes "a")

@@ -7,13 +7,12 @@ use Rattle.std.proofs.lemmas.List.Sorted.{IsPermutation-sym}
 use Rattle.definitions.specs.Journal.{HistoryRecord}
 use Rattle.definitions.specs.Calls.{SearchMode, by_prefix, by_substring}
 use Rattle.definitions.specs.Search.{compared, matches_by, hit_bytes, IsPage, IsAnswer}
-use Rattle.definitions.proofs.Among.{Among, Among-from_place, Contains-from_Among, Among-permutation, HaveOwnIds-filter, HaveOwnIds-permutation, one_order}
+use Rattle.definitions.proofs.Among.{Among, Among-from_place, Contains-from_Among, Among-permutation, HaveDistinctIds-filter, HaveDistinctIds-permutation, one_order}
 use Rattle.definitions.proofs.Search.{IsShownFirst, IsShownFirst-strict, in_order, IsPage-one, starts_with-at, stands_in-at}
-use Rattle.record_rules.specs.Records.{SealedRecord}
 use Rattle.record_rules.proofs.Members.{Has, Has-filter, Has-kept}
-use Rattle.view_rules.specs.Views.{Opening}
+use Rattle.view_rules.specs.Changes.{Change}
 use Rattle.view_rules.specs.Answers.{of_all, ScopedQuery, is_found, firsts, IsScopedAnswer, SearchAnswer}
-use Rattle.view_rules.proofs.Chains.{Has-from_Contains, Contains-from_Has}
+use Rattle.view_rules.proofs.Records.{Has-from_Contains, Contains-from_Has}
 
 -- what a filter keeps passes
 passes_kept : (passes : HistoryRecord → Bool) (entries : List HistoryRecord) (h : HistoryRecord) → Has (filter passes entries) h → passes h ≡ true
@@ -39,14 +38,14 @@ moved passes entries others xs ys over p q h m =
     let there = found_too passes entries others over h (Contains-from_Among HistoryRecord (filter passes entries) h mine) in
     Among-permutation HistoryRecord (filter passes others) ys h q (Among-from_place HistoryRecord (filter passes others) h there.0 there.1 there.2)
 
-pub search_one : (opens : Opening) (records : List SealedRecord) (asked : ScopedQuery) (page other : List HistoryRecord) → SearchAnswer opens records asked page → SearchAnswer opens records asked other → page ≡ other
-search_one opens records asked page other p q =
+pub search_one : (changes : List Change) (asked : ScopedQuery) (page other : List HistoryRecord) → SearchAnswer changes asked page → SearchAnswer changes asked other → page ≡ other
+search_one changes asked page other p q =
     let mine = filter (is_found asked) p.entries in
     let yours = filter (is_found asked) q.entries in
     let over : (h : HistoryRecord) → Contains p.entries h → Contains q.entries h = λ h c. (q.listed.same h).1 ((p.listed.same h).0 c) in
     let back : (h : HistoryRecord) → Contains q.entries h → Contains p.entries h = λ h c. (p.listed.same h).1 ((q.listed.same h).0 c) in
-    let p_own = HaveOwnIds-permutation HistoryRecord (λ h. h.id) mine p.answer.in_order p.answer.found (HaveOwnIds-filter HistoryRecord (λ h. h.id) (is_found asked) p.entries p.listed.own) in
-    let q_own = HaveOwnIds-permutation HistoryRecord (λ h. h.id) yours q.answer.in_order q.answer.found (HaveOwnIds-filter HistoryRecord (λ h. h.id) (is_found asked) q.entries q.listed.own) in
+    let p_own = HaveDistinctIds-permutation HistoryRecord (λ h. h.id) mine p.answer.in_order p.answer.found (HaveDistinctIds-filter HistoryRecord (λ h. h.id) (is_found asked) p.entries p.listed.own) in
+    let q_own = HaveDistinctIds-permutation HistoryRecord (λ h. h.id) yours q.answer.in_order q.answer.found (HaveDistinctIds-filter HistoryRecord (λ h. h.id) (is_found asked) q.entries q.listed.own) in
     let same : p.answer.in_order ≡ q.answer.in_order = one_order HistoryRecord IsShownFirst IsShownFirst-strict p.answer.in_order q.answer.in_order
     (in_order p.answer.in_order p.answer.sorted p_own) (in_order q.answer.in_order q.answer.sorted q_own)
     (λ h m. moved (is_found asked) p.entries q.entries p.answer.in_order q.answer.in_order over p.answer.found q.answer.found h m)

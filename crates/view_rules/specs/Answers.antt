@@ -6,10 +6,10 @@ use Rattle.std.specs.declared.cmp.Ordering.TheVariants.{Less}
 use Rattle.std.specs.Ordering.{nat_cmp}
 use Rattle.std.specs.Cmp.Lexicographic.{slice_cmp}
 use Rattle.definitions.specs.Calls.{SearchQuery}
-use Rattle.definitions.specs.Journal.{HistoryRecord, HaveOwnIds}
+use Rattle.definitions.specs.Journal.{HistoryRecord, HaveDistinctIds}
 use Rattle.definitions.specs.Search.{matches_by, is_shown_before, hit_bytes, IsPage}
-use Rattle.record_rules.specs.Records.{SealedRecord}
-use Rattle.view_rules.specs.Views.{Opening, ShowsHistory, ShowsKv, ShowsAlias}
+use Rattle.view_rules.specs.Changes.{Change}
+use Rattle.view_rules.specs.Views.{ShowsHistory, ShowsKv, ShowsAlias}
 
 -- ---- searches
 
@@ -49,14 +49,14 @@ pub record IsScopedAnswer (asked : ScopedQuery) (entries page : List HistoryReco
   pub cut : IsPage hit_bytes asked.query.limit (drop asked.query.offset (cond asked.unique (firsts in_order) in_order)) page
 
 -- the list has each command of the history view once, and no other
-pub record ListsHistory (opens : Opening) (records : List SealedRecord) (entries : List HistoryRecord) : Type 0 where
-  pub own : HaveOwnIds (λ (h : HistoryRecord). h.id) entries
-  pub same : (h : HistoryRecord) → Contains entries h ↔ ShowsHistory opens records h
+pub record ListsHistory (changes : List Change) (entries : List HistoryRecord) : Type 0 where
+  pub own : HaveDistinctIds (λ (h : HistoryRecord). h.id) entries
+  pub same : (h : HistoryRecord) → Contains entries h ↔ ShowsHistory changes h
 
 -- the answer over the history view
-pub record SearchAnswer (opens : Opening) (records : List SealedRecord) (asked : ScopedQuery) (page : List HistoryRecord) : Type 0 where
+pub record SearchAnswer (changes : List Change) (asked : ScopedQuery) (page : List HistoryRecord) : Type 0 where
   pub entries : List HistoryRecord
-  pub listed : ListsHistory opens records entries
+  pub listed : ListsHistory changes entries
   pub answer : IsScopedAnswer asked entries page
 
 -- ---- lists of names
@@ -86,12 +86,12 @@ pub record IsListOf (There : Named → Type 0) (after : List ℕ) (limit : ℕ) 
   pub cut : IsPage named_bytes limit all page
 
 -- the keys of a namespace that have a value; the values aren't shown
-abbrev pub IsKey : Opening → List SealedRecord → (namespace : List ℕ) → Named → Type 0
-IsKey opens records namespace item = (item.value ≡ []) × ((value : List ℕ) × ShowsKv opens records namespace item.name value)
+abbrev pub IsKey : List Change → (namespace : List ℕ) → Named → Type 0
+IsKey changes namespace item = (item.value ≡ []) × ((value : List ℕ) × ShowsKv changes namespace item.name value)
 
-abbrev pub KvListAnswer : Opening → List SealedRecord → (namespace after : List ℕ) → ℕ → List Named → Type 0
-KvListAnswer opens records namespace after limit page = IsListOf (IsKey opens records namespace) after limit page
+abbrev pub KvListAnswer : List Change → (namespace after : List ℕ) → ℕ → List Named → Type 0
+KvListAnswer changes namespace after limit page = IsListOf (IsKey changes namespace) after limit page
 
 -- the names that stand for a value, each with it
-abbrev pub AliasListAnswer : Opening → List SealedRecord → (after : List ℕ) → ℕ → List Named → Type 0
-AliasListAnswer opens records after limit page = IsListOf (λ (item : Named). ShowsAlias opens records item.name item.value) after limit page
+abbrev pub AliasListAnswer : List Change → (after : List ℕ) → ℕ → List Named → Type 0
+AliasListAnswer changes after limit page = IsListOf (λ (item : Named). ShowsAlias changes item.name item.value) after limit page

@@ -1,4 +1,6 @@
+pub mod Changes
 pub mod Views
+pub mod Standing
 pub mod Answers
 pub mod Laws
 pub mod Examples

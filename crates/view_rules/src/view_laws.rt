@@ -1,9 +1,54 @@
 //! The laws of the views. Each is a function that does nothing, whose contract is the law.
 
-ghost use Rattle.view_rules.specs.Laws.{SetMakesViews, ChainsMakeViews, SoundHasOwnSpots, IdHasOneCommand, KeyHasOneValue, NameHasOneValue, PlainSearchIsOfAll, SearchHasOneAnswer, KeysHaveOneAnswer, NamesHaveOneAnswer, LivingIdIsShown, SetKeyIsShown, SetNameIsShown};
-ghost use Rattle.view_rules.specs.Examples.{WorkedHistory, WorkedAliases, WorkedKeys, WorkedLists, WorkedSearches, WorkedViews};
+ghost use Rattle.view_rules.specs.Changes.{Opens};
+ghost use Rattle.view_rules.specs.Laws.{HaveOneList, ChangesGoOn, ComputedListIsOf, ChainsMakeChanges, SoundHasDistinctPlaces, LastMayStandFirst, SetMakesViews, ChainsMakeViews, DeadStands, FirstIsShown, LastIsShownOfKey, LastIsShownOfName, IdHasOneCommand, KeyHasOneValue, NameHasOneValue, PlainSearchIsOfAll, SearchHasOneAnswer, KeysHaveOneAnswer, NamesHaveOneAnswer, LivingIdIsShown, SetKeyIsShown, SetNameIsShown};
+ghost use Rattle.view_rules.specs.Examples.{WorkedHistory, WorkedAliases, WorkedKeys, WorkedLists, WorkedSearches, WorkedViews, WorkedChanges};
 
-/// Two lists with the same records show the same, in whatever order the records came and however often
+/// What opens records: a key. Which records open to which payloads is said by it alone, as a relation, so
+/// that the laws of changes hold of whatever opening there is.
+pub trait Opener {
+    ghost opens: { Self → Opens };
+}
+
+/// The records of a list have exactly one list of changes, where each of them opens to at most one
+/// payload and it is known which of them open.
+pub fn records_have_one_list<K: Opener>(opener: &K)
+    ensures { HaveOneList (K.opens opener.now) }
+{
+    let _ = opener;
+}
+
+/// A record more is one change more, or none where it doesn't open.
+pub fn changes_go_on<K: Opener>(opener: &K)
+    ensures { ChangesGoOn (K.opens opener.now) }
+{
+    let _ = opener;
+}
+
+/// Two journals in which owner 0 has the same chains hold the same changes.
+pub fn equal_chains_hold_the_same<K: Opener>(opener: &K)
+    ensures { ChainsMakeChanges (K.opens opener.now) }
+{
+    let _ = opener;
+}
+
+/// The changes that are computed by an opening are the list of what it opens.
+pub fn computed_changes_are_the_list()
+    ensures { ComputedListIsOf }
+{}
+
+/// In a sound journal no two changes stand at one host, tag and idx, as the laws of one value want it.
+pub fn sound_journals_have_distinct_places()
+    ensures { SoundHasDistinctPlaces }
+{}
+
+/// The last change may as well stand first: what it does to a view is told by how ids, keys and names
+/// stand.
+pub fn the_last_may_stand_first()
+    ensures { LastMayStandFirst }
+{}
+
+/// Two lists with the same changes show the same, in whatever order the changes came and however often
 /// each: the same dead ids, commands, values, aliases, searches and lists of names.
 pub fn views_depend_on_the_set()
     ensures { SetMakesViews }
@@ -14,10 +59,20 @@ pub fn equal_chains_have_equal_views()
     ensures { ChainsMakeViews }
 {}
 
-/// In a sound journal no two records of owner 0 stand at one host, tag and idx, as the next three laws
-/// want it.
-pub fn sound_journals_have_own_spots()
-    ensures { SoundHasOwnSpots }
+/// An id stands dead exactly where it was deleted.
+pub fn dead_ids_stand_dead()
+    ensures { DeadStands }
+{}
+
+/// A command is shown exactly where its id stands alive and it is the first creation.
+pub fn shown_is_the_first()
+    ensures { FirstIsShown }
+{}
+
+/// A value is shown exactly where it was the last that was said of the key or the name.
+pub fn shown_is_the_last()
+    ensures key { LastIsShownOfKey }
+    ensures name { LastIsShownOfName }
 {}
 
 /// An id has at most one command in the history view.
@@ -56,14 +111,19 @@ pub fn a_living_id_is_shown()
     ensures { LivingIdIsShown }
 {}
 
-/// A key that was set has a value.
+/// A key of which something was said has a value, unless the last that was said ended it.
 pub fn a_set_key_is_shown()
     ensures { SetKeyIsShown }
 {}
 
-/// A name that was set has a value, unless none of its records is later than one that ended it.
+/// A name of which something was said has a value, unless the last that was said ended it.
 pub fn a_set_name_is_shown()
     ensures { SetNameIsShown }
+{}
+
+/// Records of which one doesn't open: the changes of the others.
+pub fn worked_changes()
+    ensures { WorkedChanges }
 {}
 
 /// A command that was deleted on another host, before or after it is created, and of several creations
@@ -82,7 +142,7 @@ pub fn worked_lists()
     ensures { WorkedLists }
 {}
 
-/// A key that was set again.
+/// A key that was set again, and deletions of it, older and newer than its value.
 pub fn worked_keys()
     ensures { WorkedKeys }
 {}
@@ -92,7 +152,7 @@ pub fn worked_searches()
     ensures { WorkedSearches }
 {}
 
-/// Lists of the same records and lists that aren't, and lists of a key and of an alias.
+/// Lists of the same changes and lists that aren't, and lists of a key and of an alias.
 pub fn worked_views()
     ensures { WorkedViews }
 {}

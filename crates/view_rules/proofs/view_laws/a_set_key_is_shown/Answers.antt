@@ -1,4 +1,4 @@
-use Rattle.view_rules.proofs.Latest.{set_key_shown}
+use Rattle.view_rules.proofs.Ones.{set_key_shown}
 use Rattle.view_rules.proofs.view_laws.a_set_key_is_shown.Goals as goal
 
 pub returns : goal.returns

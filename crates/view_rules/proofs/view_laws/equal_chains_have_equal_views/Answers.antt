@@ -1,4 +1,4 @@
-use Rattle.view_rules.proofs.Chains.{chains_make_views}
+use Rattle.view_rules.proofs.Sets.{chains_make_views}
 use Rattle.view_rules.proofs.view_laws.equal_chains_have_equal_views.Goals as goal
 
 pub returns : goal.returns

@@ -5,20 +5,21 @@ use Rattle.std.specs.List.{AllByRecursion}
 use Rattle.std.proofs.lemmas.Bool.{cases_Bool, cases_eq, ltb-true, ltb-false, le-ltb}
 use Rattle.record_rules.specs.Records.{SealedRecord}
 use Rattle.record_rules.specs.Journal.{ChainPlace, chain, status, count_at}
-use Rattle.record_rules.specs.Growth.{IsFront}
+use Rattle.definitions.specs.Prefixes.{IsPrefix}
 use Rattle.record_rules.proofs.Members.{Has}
 use Rattle.record_rules.proofs.Status.{status_counts, lengths_make_status}
-use Rattle.view_rules.proofs.Chains.{Has-from_Contains, chains_make_views}
+use Rattle.view_rules.proofs.Records.{Has-from_Contains}
+use Rattle.view_rules.proofs.Sets.{chains_make_views}
 use Rattle.step_rules.specs.Store.{KeyedStore, SealsWell}
 use Rattle.plan_rules.specs.Plans.{PlanStep, Upload, Download, step_place, step_at, step_between}
 use Rattle.plan_rules.proofs.Plans.{plan_has_each}
 use Rattle.world_rules.specs.World.{World, empty_world}
-use Rattle.world_rules.proofs.Cuts.{front_itself, fronts_alike, front_rest}
+use Rattle.definitions.proofs.Prefixes.{prefix-itself, prefixes-alike, prefix-is_shorter, prefixes-nest}
 use Rattle.world_rules.proofs.Kept.{Holds, find_place}
 use Rattle.rehearsal_rules.specs.Transfers.{Each, plan_at, HandsUp, HandsDown, Uploads, Downloads}
 use Rattle.rehearsal_rules.specs.Rehearsal.{key_of, hosts_of, Rehearsed}
-use Rattle.rehearsal_rules.specs.Laws.{InEachRehearsal, EndAlike}
-use Rattle.rehearsal_rules.proofs.Nodes.{is_a_host}
+use Rattle.rehearsal_rules.specs.Laws.{InEachRehearsal, EndAlike, HasAll}
+use Rattle.rehearsal_rules.proofs.Nodes.{is_a_host, node_has_host}
 use Rattle.rehearsal_rules.proofs.Reached.{leads_keep, empty_holds_all, hosts_fit, played_leads}
 use Rattle.rehearsal_rules.proofs.Levels.{count, HasFronts, Moved, Part, Did, steps_move, step_up, step_down}
 
@@ -160,7 +161,7 @@ module _ (store : KeyedStore) (well : SealsWell store) (hosts : ℕ) where
             elim (cases_eq other node) [
               | inl same ↦ subst (λ n. HasFronts new 0 n) (sym same) (one.moved.fronts (fronts node within))
               | inr differ ↦ λ host tag.
-                  subst (λ journal. IsFront (chain journal 0 host tag) (chain (new.journal 0) 0 host tag)) (sym (one.moved.others other differ)) (subst (λ journal. IsFront (chain (w.journal other) 0 host tag) (chain journal 0 host tag)) (sym server) (fronts other below host tag))
+                  subst (λ journal. IsPrefix (chain journal 0 host tag) (chain (new.journal 0) 0 host tag)) (sym (one.moved.others other differ)) (subst (λ journal. IsPrefix (chain (w.journal other) 0 host tag) (chain journal 0 host tag)) (sym server) (fronts other below host tag))
             ];
         reaches = λ other has host tag.
             elim has [
@@ -194,13 +195,6 @@ module _ (store : KeyedStore) (well : SealsWell store) (hosts : ℕ) where
 
 -- ---- the end
 
-front_is_shorter : (xs ys : List SealedRecord) → IsFront xs ys → length xs ≤ length ys
-front_is_shorter xs ys front = let all : length ys ≡ length xs + length (drop (length xs) ys) = ap length (sym (front_rest xs ys front)) ∙ length-append xs (drop (length xs) ys) in omega (arith, all)
-
--- of two fronts of a list the shorter one is a front of the other one
-fronts_nest : (xs ys zs : List SealedRecord) → IsFront xs zs → IsFront ys zs → length xs ≤ length ys → IsFront xs ys
-fronts_nest xs ys zs front other shorter = front ∙ sym (take-take (length xs) (length ys) zs shorter) ∙ ap (take (length xs)) (sym other)
-
 module _ (keyed : List ℕ → KeyedStore) (seed hosts events : ℕ) (w : World) (well : SealsWell (keyed (key_of seed))) (some : 0 < hosts) (rehearsed : Rehearsed keyed seed hosts events w) where
   played_holds : Holds (hosts_of hosts) rehearsed.played.world
   played_holds = leads_keep (keyed (key_of seed)) hosts empty_world rehearsed.played.world well (empty_holds_all hosts (keyed (key_of seed)) well) (played_leads keyed seed hosts events some rehearsed.played rehearsed.plays)
@@ -220,17 +214,35 @@ module _ (keyed : List ℕ → KeyedStore) (seed hosts events : ℕ) (w : World)
   server_first : (node : ℕ) → node ≤ hosts → HasFronts rehearsed.uploaded 0 node
   server_first node within host tag =
       elim (find_place (0 ∷ hosts_of hosts) host) [
-        | inl found ↦ fronts_nest (chain (rehearsed.uploaded.journal node) 0 host tag) (chain (rehearsed.uploaded.journal 0) 0 host tag) (chain (rehearsed.uploaded.journal found.0) 0 host tag) (uploaded.holds.fronts node found.0 host tag found.1) (uploaded.holds.fronts 0 found.0 host tag found.1) (no_longer node within host tag)
-        | inr none ↦ subst (λ xs. IsFront xs (chain (rehearsed.uploaded.journal 0) 0 host tag)) (sym (uploaded.holds.strangers node host tag none)) refl
+        | inl found ↦ prefixes-nest (chain (rehearsed.uploaded.journal node) 0 host tag) (chain (rehearsed.uploaded.journal 0) 0 host tag) (chain (rehearsed.uploaded.journal found.0) 0 host tag) (uploaded.holds.fronts node found.0 host tag found.1) (uploaded.holds.fronts 0 found.0 host tag found.1) (no_longer node within host tag)
+        | inr none ↦ subst (λ xs. IsPrefix xs (chain (rehearsed.uploaded.journal 0) 0 host tag)) (sym (uploaded.holds.strangers node host tag none)) refl
       ]
 
   as_server : (node : ℕ) → node ≤ hosts → (host : ℕ) (tag : List ℕ) → chain (w.journal node) 0 host tag ≡ chain (w.journal 0) 0 host tag
   as_server zero within host tag = refl
   as_server (suc n) within host tag =
       let front = downloaded.first server_first (suc n) within host tag in
-      let short : count w (suc n) host tag ≤ count w 0 host tag = front_is_shorter (chain (w.journal (suc n)) 0 host tag) (chain (w.journal 0) 0 host tag) front in
+      let short : count w (suc n) host tag ≤ count w 0 host tag = prefix-is_shorter (chain (w.journal (suc n)) 0 host tag) (chain (w.journal 0) 0 host tag) front in
       let long : count w 0 host tag ≤ count w (suc n) host tag = subst (λ journal. length (chain journal 0 host tag) ≤ count w (suc n) host tag) (sym downloaded.server) (downloaded.reaches (suc n) (is_a_host hosts (suc n) (omega arith) within) host tag) in
-      fronts_alike (chain (w.journal (suc n)) 0 host tag) (chain (w.journal 0) 0 host tag) (chain (w.journal 0) 0 host tag) front (front_itself (chain (w.journal 0) 0 host tag)) (omega (arith, short, long))
+      prefixes-alike (chain (w.journal (suc n)) 0 host tag) (chain (w.journal 0) 0 host tag) (chain (w.journal 0) 0 host tag) front (prefix-itself (chain (w.journal 0) 0 host tag)) (omega (arith, short, long))
+
+  -- the server's chain of a host is that of the host's own node, as it was before the last transfers
+  own_chain : (host : ℕ) → 1 ≤ host → host ≤ hosts → (tag : List ℕ) → chain (w.journal 0) 0 host tag ≡ chain (rehearsed.played.world.journal host) 0 host tag
+  own_chain host some_host within tag =
+      let same : rehearsed.uploaded.journal host ≡ rehearsed.played.world.journal host = uploaded.others host (λ none. absurd (omega (arith, none, some_host))) in
+      let front = uploaded.holds.fronts 0 host host tag (node_has_host hosts host within) in
+      let short : count rehearsed.uploaded 0 host tag ≤ count rehearsed.uploaded host host tag = prefix-is_shorter (chain (rehearsed.uploaded.journal 0) 0 host tag) (chain (rehearsed.uploaded.journal host) 0 host tag) front in
+      let long : count rehearsed.uploaded host host tag ≤ count rehearsed.uploaded 0 host tag = subst (λ journal. length (chain journal 0 host tag) ≤ count rehearsed.uploaded 0 host tag) (sym same) (uploaded.reaches host (is_a_host hosts host some_host within) host tag) in
+      ap (λ journal. chain journal 0 host tag) downloaded.server
+      ∙ prefixes-alike (chain (rehearsed.uploaded.journal 0) 0 host tag) (chain (rehearsed.uploaded.journal host) 0 host tag) (chain (rehearsed.uploaded.journal host) 0 host tag) front (prefix-itself (chain (rehearsed.uploaded.journal host) 0 host tag)) (omega (arith, short, long))
+      ∙ ap (λ journal. chain journal 0 host tag) same
+
+pub end_with_all : InEachRehearsal HasAll
+end_with_all keyed seed hosts events w well some rehearsed = record {
+  played = rehearsed.played;
+  plays = rehearsed.plays;
+  chains = λ node host tag within some_host host_within. as_server keyed seed hosts events w well some rehearsed node within host tag ∙ own_chain keyed seed hosts events w well some rehearsed host some_host host_within tag;
+}
 
 pub end_alike : InEachRehearsal EndAlike
 end_alike keyed seed hosts events w well some rehearsed node other within other_within =

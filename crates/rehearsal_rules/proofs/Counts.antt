@@ -6,7 +6,7 @@ use Rattle.std.proofs.lemmas.Option.{none-some, slice_get_within}
 use Rattle.record_rules.specs.Limits.{most_page_records}
 use Rattle.record_rules.specs.Records.{SealedRecord, Entry}
 use Rattle.record_rules.specs.Journal.{own_events, records_of, in_place, chain, IsNumbered}
-use Rattle.record_rules.specs.Growth.{GoOn, same_spot, holder, Stands}
+use Rattle.record_rules.specs.Growth.{GoOn, same_place, holder, IsHeld}
 use Rattle.record_rules.specs.Answers.{page}
 use Rattle.record_rules.proofs.Members.{Has-kept, place_of_Has, find_has}
 use Rattle.record_rules.proofs.Pages.{page_is_longest}
@@ -35,19 +35,19 @@ page_goes_on journal owner host tag start count go_on =
 
 module _ (journal : List Entry) (owner : ℕ) where
   -- the idx of a record that stands is one of its chain
-  stands_within : (r : SealedRecord) → IsNumbered (chain journal owner r.host r.tag) → Stands (records_of (own_events journal owner)) r → r.idx < length (chain journal owner r.host r.tag)
+  stands_within : (r : SealedRecord) → IsNumbered (chain journal owner r.host r.tag) → IsHeld (records_of (own_events journal owner)) r → r.idx < length (chain journal owner r.host r.tag)
   stands_within r numbered stands = by (holder (records_of (own_events journal owner)) r) refl stands
     where
       by : (o : Option SealedRecord) → holder (records_of (own_events journal owner)) r ≡ o → option_map (λ (x : SealedRecord). x.id) o ≡ Some r.id → r.idx < length (chain journal owner r.host r.tag)
       by None found same = absurd (none-some r.id same)
       by (Some other) found same =
-          let at = find_has (same_spot r) (records_of (own_events journal owner)) other found in
+          let at = find_has (same_place r) (records_of (own_events journal owner)) other found in
           let parts = and_parts (in_place r.host r.tag other) (other.idx == r.idx) at.0 in
           let place = place_of_Has (chain journal owner r.host r.tag) other (Has-kept (in_place r.host r.tag) (records_of (own_events journal owner)) other at.1 parts.0) in
           let within : place.0 < length (chain journal owner r.host r.tag) = slice_get_within (chain journal owner r.host r.tag) place.0 other place.1 in
           subst (λ n. n < length (chain journal owner r.host r.tag)) (sym (numbered place.0 other place.1) ∙ eqb-true other.idx r.idx parts.1) within
 
-  pub standing_reach : (host : ℕ) (tag : List ℕ) → IsNumbered (chain journal owner host tag) → (idx : ℕ) (records : List SealedRecord) → GoOn host tag idx records → All (Stands (records_of (own_events journal owner))) records → idx ≤ length (chain journal owner host tag)
+  pub standing_reach : (host : ℕ) (tag : List ℕ) → IsNumbered (chain journal owner host tag) → (idx : ℕ) (records : List SealedRecord) → GoOn host tag idx records → All (IsHeld (records_of (own_events journal owner))) records → idx ≤ length (chain journal owner host tag)
       → idx + length records ≤ length (chain journal owner host tag)
   standing_reach host tag numbered idx [] go_on stand low = omega (arith, low)
   standing_reach host tag numbered idx (r ∷ records) go_on stand low =

@@ -1,14 +1,17 @@
 -- The worked examples, computed.
-use Rattle.std.proofs.Common.{◌≡◌, ℕ, ◌+◌, inl, inr, List, [], ◌∷◌, None, refl, arith}
+use Rattle.std.proofs.Common.{◌≡◌, ℕ, ◌+◌, inl, inr, List, [], ◌∷◌, None, refl, subst, arith}
 use Rattle.std.specs.Prelude.{codes, replicate, if◌then◌else◌, ◌==◌}
 use Rattle.std.specs.Fmt.{digits}
-use Rattle.std.proofs.lemmas.Option.{none-some}
+use Rattle.std.specs.List.{Contains}
 use Rattle.std.proofs.lemmas.List.Sorted.{IsPermutation-refl}
 use Rattle.definitions.specs.Journal.{HistoryRecord}
-use Rattle.definitions.proofs.Among.{HaveOwnIds-none}
-use Rattle.payload_rules.specs.Payloads.{HistoryCreate, KvSet}
-use Rattle.record_rules.specs.Records.{Caller, Entry, Local}
+use Rattle.definitions.proofs.Among.{HaveDistinctIds-none}
+use Rattle.payload_rules.specs.Payloads.{KvSet}
+use Rattle.record_rules.specs.Records.{Caller, SealedRecord, Entry, Local}
 use Rattle.record_rules.specs.Examples.{caller, entry_of}
+use Rattle.view_rules.specs.Changes.{Change, viewed, changes_of}
+use Rattle.view_rules.specs.Views.{ShowsHistory}
+use Rattle.view_rules.proofs.Alone.{none_of_none}
 use Rattle.step_rules.specs.Calls.{kv_set_call}
 use Rattle.step_rules.specs.Answers.{stored}
 use Rattle.step_rules.specs.Step.{record_draft, kv_set_drafts, append_step}
@@ -58,11 +61,19 @@ transfers = record {
 
 -- ---- a whole rehearsal
 
--- where no record opens a search for all finds nothing
+-- where no record opens nothing is shown
+none_open : (records : List SealedRecord) → changes_of (λ r. None) records ≡ []
+none_open [] = refl
+none_open (r ∷ records) = none_open records
+
+nothing_shown : (records : List SealedRecord) (h : HistoryRecord) → ShowsHistory (changes_of (λ r. None) records) h → ⊥
+nothing_shown records h shown = none_of_none shown.0 (subst (λ (changes : List Change). Contains changes shown.0) (none_open records) shown.1.created.among)
+
+-- and a search for all finds nothing
 pub nothing_found : (key : List ℕ) (r : Rehearsal) (host : ℕ) → FindsFirst (open_store None key) r host []
 nothing_found key r host = record {
   entries = [];
-  listed = record { own = HaveOwnIds-none HistoryRecord (λ h. h.id); same = λ h. (λ among. absurd (let below = among.1 in omega arith), λ shown. absurd (none-some (HistoryCreate h) shown.1.created.opened)) };
+  listed = record { own = HaveDistinctIds-none HistoryRecord (λ h. h.id); same = λ h. (λ among. absurd (let below = among.1 in omega arith), λ shown. absurd (nothing_shown (viewed (r.world.journal (host + 1))) h shown)) };
   answer = record { in_order = []; found = IsPermutation-refl []; sorted = λ k d low high. absurd (omega arith); cut = whole_page 1 [] (omega arith, inl (omega arith)) };
 }
 

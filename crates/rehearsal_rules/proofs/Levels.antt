@@ -5,16 +5,18 @@ use Rattle.std.proofs.lemmas.Bool.{eq-eqb, ne_eqb}
 use Rattle.std.proofs.lemmas.Option.{none-some, same_Some}
 use Rattle.record_rules.specs.Records.{Caller, Entry}
 use Rattle.record_rules.specs.Journal.{ChainPlace, chain, Sound}
-use Rattle.record_rules.specs.Growth.{GoOn, IsFront, grow}
+use Rattle.definitions.specs.Prefixes.{IsPrefix}
+use Rattle.record_rules.specs.Growth.{GoOn, grow}
 use Rattle.record_rules.proofs.Members.{Has}
 use Rattle.record_rules.proofs.Origins.{slice_keeps_front, slice_leaves_other_chains}
 use Rattle.record_rules.proofs.Repeats.{page_stands}
 use Rattle.step_rules.specs.Store.{KeyedStore, SealsWell}
 use Rattle.plan_rules.specs.Plans.{PlanStep, Upload, Download, step_between}
 use Rattle.world_rules.specs.World.{World, with_journal, with_page}
-use Rattle.world_rules.proofs.Cuts.{front_itself, cut_is_slice, page_is_cut, chain_goes_on}
+use Rattle.world_rules.proofs.Cuts.{cut_is_slice, page_is_cut, chain_goes_on}
+use Rattle.definitions.proofs.Prefixes.{prefix-itself}
 use Rattle.world_rules.proofs.Batches.{chain_append}
-use Rattle.world_rules.proofs.Kept.{Holds, same_place}
+use Rattle.world_rules.proofs.Kept.{Holds, same_or_other}
 use Rattle.rehearsal_rules.specs.Transfers.{Each, next_page, with_taken, Hands}
 use Rattle.rehearsal_rules.specs.Rehearsal.{hosts_of}
 use Rattle.rehearsal_rules.proofs.Nodes.{node_has_host}
@@ -28,7 +30,7 @@ count w node host tag = length (chain (w.journal node) 0 host tag)
 
 -- each chain of the one node is a front of that of the other one
 abbrev pub HasFronts : World → (giver taker : ℕ) → Type 0
-HasFronts w giver taker = (host : ℕ) (tag : List ℕ) → IsFront (chain (w.journal taker) 0 host tag) (chain (w.journal giver) 0 host tag)
+HasFronts w giver taker = (host : ℕ) (tag : List ℕ) → IsPrefix (chain (w.journal taker) 0 host tag) (chain (w.journal giver) 0 host tag)
 
 journal_there : (w : World) (node : ℕ) (journal : List Entry) → (with_journal w node journal).journal node ≡ journal
 journal_there w node journal = ap (λ b. cond b journal (w.journal node)) (eq-eqb node node refl)
@@ -103,14 +105,14 @@ module _ (store : KeyedStore) (well : SealsWell store) (hosts : ℕ) where
       keeps_fronts fronts host tag =
           let given = next_page w giver place start end in
           let whole = chain (w.journal giver) 0 place.host place.tag in
-          let cut = page_is_cut (w.journal giver) 0 place.host place.tag start (end - start) whole (front_itself whole) in
+          let cut = page_is_cut (w.journal giver) 0 place.host place.tag start (end - start) whole (prefix-itself whole) in
           let slice : grow (w.journal taker) caller 0 (take (length given) (drop (length cut.before) whole)) ≡ Ok batch = ap (grow (w.journal taker) caller 0) (cut_is_slice given whole cut) ∙ taken in
-          let there : IsFront (chain (w.journal taker ++ batch) 0 host tag) (chain (w.journal giver) 0 host tag) =
-          elim (same_place place.host host place.tag tag) [
-            | inl same ↦ subst (λ t. IsFront (chain (w.journal taker ++ batch) 0 host t) (chain (w.journal giver) 0 host t)) same.1 (subst (λ h. IsFront (chain (w.journal taker ++ batch) 0 h place.tag) (chain (w.journal giver) 0 h place.tag)) same.0 (slice_keeps_front (w.journal taker) taker caller 0 place.host place.tag whole (length cut.before) (length given) batch (holds.sound taker taker (node_has_host hosts taker takes)) giver_goes_on (fronts place.host place.tag) slice))
-            | inr other ↦ subst (λ xs. IsFront xs (chain (w.journal giver) 0 host tag)) (sym (slice_leaves_other_chains (w.journal taker) caller 0 place.host place.tag whole (length cut.before) (length given) host tag batch giver_goes_on other slice)) (fronts host tag)
+          let there : IsPrefix (chain (w.journal taker ++ batch) 0 host tag) (chain (w.journal giver) 0 host tag) =
+          elim (same_or_other place.host host place.tag tag) [
+            | inl same ↦ subst (λ t. IsPrefix (chain (w.journal taker ++ batch) 0 host t) (chain (w.journal giver) 0 host t)) same.1 (subst (λ h. IsPrefix (chain (w.journal taker ++ batch) 0 h place.tag) (chain (w.journal giver) 0 h place.tag)) same.0 (slice_keeps_front (w.journal taker) taker caller 0 place.host place.tag whole (length cut.before) (length given) batch (holds.sound taker taker (node_has_host hosts taker takes)) giver_goes_on (fronts place.host place.tag) slice))
+            | inr other ↦ subst (λ xs. IsPrefix xs (chain (w.journal giver) 0 host tag)) (sym (slice_leaves_other_chains (w.journal taker) caller 0 place.host place.tag whole (length cut.before) (length given) host tag batch giver_goes_on other slice)) (fronts host tag)
           ] in
-          subst (λ journal. IsFront (chain (next.journal taker) 0 host tag) (chain journal 0 host tag)) (sym (elsewhere giver differ)) (subst (λ journal. IsFront (chain journal 0 host tag) (chain (w.journal giver) 0 host tag)) (sym at_taker) there)
+          subst (λ journal. IsPrefix (chain (next.journal taker) 0 host tag) (chain journal 0 host tag)) (sym (elsewhere giver differ)) (subst (λ journal. IsPrefix (chain journal 0 host tag) (chain (w.journal giver) 0 host tag)) (sym at_taker) there)
 
       page_moves : Moved giver taker w next
       page_moves = record { holds = now_holds; others = elsewhere; rises = longer; fronts = keeps_fronts }

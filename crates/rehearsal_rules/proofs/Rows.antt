@@ -1,8 +1,7 @@
 -- The worked rows, computed.
-use Rattle.std.proofs.Common.{◌≡◌, ℕ, ◌+◌, inl, inr, List, [], ◌∷◌, length, Some, None, refl, sym, ap, subst, arith}
+use Rattle.std.proofs.Common.{◌≡◌, ℕ, ◌+◌, inl, inr, List, [], ◌∷◌, length, Some, None, refl, ap, arith}
 use Rattle.std.specs.Prelude.{codes, replicate, pos, Option, if◌then◌else◌, ◌==◌}
 use Rattle.std.specs.Fmt.{digits}
-use Rattle.std.specs.declared.cmp.Ordering.TheVariants.{Less}
 use Rattle.std.proofs.lemmas.List.Sorted.{IsPermutation-refl}
 use Rattle.definitions.specs.Ids.{id_text}
 use Rattle.definitions.specs.Journal.{finished}
@@ -10,13 +9,15 @@ use Rattle.definitions.specs.Examples.{ls_ended}
 use Rattle.payload_rules.specs.Payloads.{Payload, HistoryCreate, HistoryDelete, KvSet, AliasSet, AliasDelete}
 use Rattle.record_rules.specs.Records.{SealedRecord, Entry, Started, Local}
 use Rattle.record_rules.specs.Examples.{caller, placed_record, entry_of}
-use Rattle.view_rules.specs.Views.{NamesAlias, ShowsAlias, time_cmp}
+use Rattle.view_rules.specs.Changes.{changes_of}
+use Rattle.view_rules.specs.Views.{of_name, ShowsAlias}
+use Rattle.view_rules.proofs.Settings.{shown_from}
 use Rattle.view_rules.proofs.Searches.{search_one}
 use Rattle.step_rules.specs.Calls.{Call, delete_call, kv_set_call, alias_set_call, alias_delete_call, end_call}
 use Rattle.step_rules.specs.Answers.{Answer, began, stored}
 use Rattle.step_rules.specs.Store.{KeyedStore}
 use Rattle.step_rules.specs.Step.{start_draft, record_draft, started_record, start_drafts, end_drafts, delete_drafts, kv_set_drafts, alias_set_drafts, alias_delete_drafts, append_step}
-use Rattle.step_rules.proofs.Examples.{whole_page, only_one, not_after_itself, command_shown, found_of_one}
+use Rattle.step_rules.proofs.Examples.{whole_page, command_shown, found_of_one}
 use Rattle.world_rules.specs.World.{empty_world, with_journal}
 use Rattle.world_rules.specs.Examples.{command_record}
 use Rattle.rehearsal_rules.specs.Words.{words_for}
@@ -55,14 +56,14 @@ starts = record {
   becomes = refl;
 }
 
-ends : Makes (open_store None zeros) 0 between 1 (end_call start_id (pos 12000) (pos 0)) (stored 0) ran_there
+ends : Makes (open_store None zeros) 0 between 1 (end_call start_id (pos 12000) (pos 0) None) (stored 0) ran_there
 unfolding digits
 ends = record {
   caller = caller;
   bytes = 106;
   journal = started ∷ finished_there ∷ [];
   fits = record { numbers = (omega arith, omega arith, omega arith); texts = omega arith };
-  stepped = append_step 1700000000001000000 _ (record_draft (Some start_id) (HistoryCreate (finished (started_record start_id 1700000000000000000 (codes "c12") (codes "/") (codes "s1") (codes "h1:u")) (pos 12000) (pos 0)))) refl refl (record { short = refl; drafts = end_drafts start_id _ _ (started_record start_id 1700000000000000000 (codes "c12") (codes "/") (codes "s1") (codes "h1:u")) refl refl refl; room = refl }) refl refl refl;
+  stepped = append_step 1700000000001000000 _ (record_draft (Some start_id) (HistoryCreate (finished (started_record start_id 1700000000000000000 (codes "c12") (codes "/") (codes "s1") (codes "h1:u")) (pos 12000) (pos 0) None))) refl refl (record { short = refl; drafts = end_drafts start_id _ _ None (started_record start_id 1700000000000000000 (codes "c12") (codes "/") (codes "s1") (codes "h1:u")) refl refl refl; room = refl }) refl refl refl;
   becomes = refl;
 }
 
@@ -129,18 +130,8 @@ names_it = record {
 abbrev alias_record : SealedRecord
 alias_record = placed_record 2 (codes "dotfiles-shell-alias") 0 11
 
-only_alias : (s : SealedRecord) → NamesAlias (open_store alias_store zeros).opens (alias_record ∷ []) (codes "a12") s → alias_record ≡ s
-only_alias s (inl sets) = only_one alias_record s sets.1.among
-only_alias s (inr ends) = only_one alias_record s ends.among
-
-alias_there : ShowsAlias (open_store alias_store zeros).opens (alias_record ∷ []) (codes "a12") (codes "v1")
-alias_there = (
-  alias_record,
-  record {
-    set = record { among = (0, omega arith, refl); opened = refl };
-    last = λ s names later. not_after_itself alias_record (subst (λ t. time_cmp alias_record t ≡ Less) (sym (only_alias s names)) later);
-  },
-)
+alias_there : ShowsAlias (changes_of (open_store alias_store zeros).opens (alias_record ∷ [])) (codes "a12") (codes "v1")
+alias_there = shown_from (of_name (codes "a12")) (changes_of (open_store alias_store zeros).opens (alias_record ∷ [])) (codes "v1") refl
 
 abbrev name_gone : List Entry
 name_gone = one_more (an_alias ∷ []) (codes "dotfiles-shell-alias") 1 (codes "a12")
@@ -163,7 +154,7 @@ call_is_made : (store : KeyedStore) (journal : List Entry) (call : Call) (answer
 call_is_made store journal call answer makes = let counted : 2 ≡ 3 = ap (λ (r : Rehearsal). r.readings) makes.becomes in absurd (omega (arith, counted))
 
 hit_is_found : FindsFirst (open_store ended_store zeros) (moment_at (ended ∷ [])) 1 [] → ⊥
-hit_is_found none = let many : 1 ≡ 0 = ap length (search_one _ _ _ (ls_ended ∷ []) [] hit_found none) in absurd (omega (arith, many))
+hit_is_found none = let many : 1 ≡ 0 = ap length (search_one _ _ (ls_ended ∷ []) [] hit_found none) in absurd (omega (arith, many))
 
 not_left : Plays (open_store ended_store zeros) 0 (moment_at (ended ∷ [])) 5 1 3 12 (moment_at (ended ∷ [])) → ⊥
 not_left (runs _ _ _ at _ _) = absurd (omega (arith, at))
@@ -193,7 +184,7 @@ alias_not_left (crashes at _) = absurd (omega (arith, at))
 -- ---- all rows
 
 no_alias : (name : List ℕ) → HasName (open_store None zeros) (moment_at []) 1 name → ⊥
-no_alias name named = let below = named.1.1.set.among.1 in absurd (omega arith)
+no_alias name named = let below = named.1.1.here.among.1 in absurd (omega arith)
 
 nothing_leaves : (next : Rehearsal) → Plays (open_store None zeros) 0 (moment_at (ended ∷ [])) 5 1 9 12 next → next ≡ moment_at (ended ∷ [])
 nothing_leaves next (runs _ _ _ at _ _) = absurd (omega (arith, at))

@@ -2,7 +2,7 @@
 use Rattle.std.specs.Prelude.{◌≡◌, ℕ, nat_abs, List, [], ◌∷◌, ◌++◌, codes, decimal, drop, replicate, Option, Some, None}
 use Rattle.definitions.specs.Ids.{id_text}
 use Rattle.definitions.specs.Examples.{ls_ended}
-use Rattle.payload_rules.specs.Payloads.{Payload, HistoryCreate, HistoryDelete, KvSet, AliasSet, AliasDelete}
+use Rattle.payload_rules.specs.Payloads.{Payload, HistoryCreate, HistoryDelete, KvSet, KvDelete, AliasSet, AliasDelete}
 use Rattle.record_rules.specs.Records.{SealedRecord, Caller, Entry, Started, Local}
 use Rattle.record_rules.specs.Growth.{taken_entry}
 use Rattle.record_rules.specs.Examples.{caller, placed_record, entry_of}
@@ -31,6 +31,7 @@ abbrev pub said : Payload → List ℕ
 said (HistoryCreate h) = h.command ++ (h.cwd ++ (h.session ++ (h.hostname ++ decimal (nat_abs h.duration))))
 said (HistoryDelete id) = id_text id
 said (KvSet namespace key value) = namespace ++ (key ++ value)
+said (KvDelete namespace key) = namespace ++ key
 said (AliasSet name value) = name ++ value
 said (AliasDelete name) = name
 

@@ -1,13 +1,15 @@
 -- The laws of rehearsals, as statements. Each is the contract of the function that tells it.
 use Rattle.std.specs.Prelude.{◌≡◌, ℕ, ◌+◌, ◌%◌, ◌^◌, ◌<◌, ◌≤◌, List}
+use Rattle.std.specs.List.{range_with_len}
 use Rattle.record_rules.specs.Journal.{chain, status}
-use Rattle.view_rules.specs.Views.{Opening, viewed}
+use Rattle.view_rules.specs.Changes.{Opening, viewed, changes_of}
 use Rattle.view_rules.specs.Laws.{SameViews}
 use Rattle.step_rules.specs.Store.{KeyedStore, SealsWell}
 use Rattle.world_rules.specs.World.{World, WorldEvent, HostsDiffer, Reach}
 use Rattle.world_rules.specs.Stores.{StoreAsked, store_step}
 use Rattle.rehearsal_rules.specs.Words.{nth_word}
-use Rattle.rehearsal_rules.specs.Rehearsal.{key_of, hosts_of, Rehearsed}
+use Rattle.rehearsal_rules.specs.Transfers.{Each}
+use Rattle.rehearsal_rules.specs.Rehearsal.{key_of, hosts_of, Rehearsal, first_moment, PlaysEvent, Rehearsed}
 
 -- A word is the first one of the next state, so the words are those of the recurrence.
 abbrev pub WordsFollow : Type 0
@@ -29,7 +31,14 @@ IsReached keyed seed hosts events w = (happened : List (WorldEvent StoreAsked)) 
 pub record AreAlike (w : World) (node other : ℕ) : Type 0 where
   pub chains : (host : ℕ) (tag : List ℕ) → chain (w.journal node) 0 host tag ≡ chain (w.journal other) 0 host tag
   pub statuses : status (w.journal node) 0 ≡ status (w.journal other) 0
-  pub views : (opens : Opening) → SameViews opens (viewed (w.journal node)) (viewed (w.journal other))
+  pub views : (opening : Opening) → SameViews (changes_of opening (viewed (w.journal node))) (changes_of opening (viewed (w.journal other)))
 
 abbrev pub EndAlike : (keyed : List ℕ → KeyedStore) → (seed hosts events : ℕ) → World → Type 0
 EndAlike keyed seed hosts events w = (node other : ℕ) → node ≤ hosts → other ≤ hosts → AreAlike w node other
+
+-- What they hold is all that the hosts made: when all events had happened, before the last transfers, the chains of each host at its own
+-- node were those that each node has now.
+pub record HasAll (keyed : List ℕ → KeyedStore) (seed hosts events : ℕ) (w : World) : Type 0 where
+  pub played : Rehearsal
+  pub plays : Each (PlaysEvent (keyed (key_of seed)) seed hosts) (range_with_len 1 events) first_moment played
+  pub chains : (node host : ℕ) (tag : List ℕ) → node ≤ hosts → 1 ≤ host → host ≤ hosts → chain (w.journal node) 0 host tag ≡ chain (played.world.journal host) 0 host tag

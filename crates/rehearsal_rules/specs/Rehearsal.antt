@@ -1,16 +1,15 @@
 -- A rehearsal: a large run of a world that a seed tells whole, but for whose calls its pages come in.
-use Rattle.std.specs.Prelude.{◌≡◌, ℕ, ◌+◌, ◌-◌, ◌*◌, ◌/◌, ◌%◌, ◌^◌, ◌<◌, pos, List, [], ◌∷◌, ◌++◌, codes, decimal, false, ◌⊎◌, if◌then◌else◌, ◌==◌}
+use Rattle.std.specs.Prelude.{◌≡◌, ℕ, ◌+◌, ◌-◌, ◌*◌, ◌/◌, ◌%◌, ◌^◌, ◌<◌, pos, List, [], ◌∷◌, ◌++◌, codes, decimal, false, ◌⊎◌, if◌then◌else◌, ◌==◌, None}
 use Rattle.std.specs.List.{range_with_len}
 use Rattle.std.specs.Int.{w64, to_be_bytes}
 use Rattle.definitions.specs.Calls.{by_prefix}
 use Rattle.definitions.specs.Journal.{HistoryRecord}
 use Rattle.definitions.specs.Step.{read_and_drew}
 use Rattle.record_rules.specs.Records.{Caller, Entry}
-use Rattle.view_rules.specs.Views.{viewed}
 use Rattle.view_rules.specs.Answers.{of_all, ScopedQuery, SearchAnswer}
 use Rattle.step_rules.specs.Calls.{Call, start_call, end_call, delete_call, kv_set_call, alias_set_call, alias_delete_call, CallFits}
 use Rattle.step_rules.specs.Answers.{Answer, began, stored}
-use Rattle.step_rules.specs.Store.{KeyedStore, HasAlias}
+use Rattle.step_rules.specs.Store.{KeyedStore, shown_changes, HasAlias}
 use Rattle.step_rules.specs.Step.{Step}
 use Rattle.world_rules.specs.World.{World, empty_world, with_journal}
 use Rattle.world_rules.specs.Stores.{at_host}
@@ -68,7 +67,7 @@ first_hit = record { scope = of_all; unique = false; query = record { mode = by_
 
 -- what the host's search answers, and whether the host has the alias
 abbrev pub FindsFirst : KeyedStore → Rehearsal → (host : ℕ) → List HistoryRecord → Type 0
-FindsFirst store r host hits = SearchAnswer store.opens (viewed (r.world.journal (host + 1))) first_hit hits
+FindsFirst store r host hits = SearchAnswer (shown_changes store (r.world.journal (host + 1))) first_hit hits
 
 abbrev pub HasName : KeyedStore → Rehearsal → (host : ℕ) → List ℕ → Type 0
 HasName store r host name = HasAlias store (r.world.journal (host + 1)) name
@@ -76,7 +75,7 @@ HasName store r host name = HasAlias store (r.world.journal (host + 1)) name
 -- What a host does in the event of this number, by the event's row, from 0 to 9, and a number a below 16. No call is refused.
 pub data Plays (store : KeyedStore) (seed : ℕ) (r : Rehearsal) (number host row a : ℕ) (after : Rehearsal) : Type 0 where
   -- a command starts and ends
-  runs : (id idx : ℕ) (between : Rehearsal) → row < 3 → Makes store seed r host (start_of host a) (began id) between → Makes store seed between host (end_call id (pos (1000 * a)) (pos 0)) (stored idx) after → Plays store seed r number host row a after
+  runs : (id idx : ℕ) (between : Rehearsal) → row < 3 → Makes store seed r host (start_of host a) (began id) between → Makes store seed between host (end_call id (pos (1000 * a)) (pos 0) None) (stored idx) after → Plays store seed r number host row a after
   -- the first hit is deleted, where there is one
   deletes : (hit : HistoryRecord) (idx : ℕ) → row ≡ 3 → FindsFirst store r host (hit ∷ []) → Makes store seed r host (delete_call hit.id) (stored idx) after → Plays store seed r number host row a after
   finds_nothing : row ≡ 3 → FindsFirst store r host [] → after ≡ r → Plays store seed r number host row a after

@@ -10,7 +10,7 @@
 //! (`view_rules`) and journals (`record_rules`).
 #![tactic(auto)]
 
-ghost use Rattle.rehearsal_rules.specs.Laws.{WordsFollow, HostsOfDiffer, InEachRehearsal, IsReached, EndAlike};
+ghost use Rattle.rehearsal_rules.specs.Laws.{WordsFollow, HostsOfDiffer, InEachRehearsal, IsReached, EndAlike, HasAll};
 ghost use Rattle.rehearsal_rules.specs.Examples.{WorkedWords, WorkedRows, WorkedTransfers, WorkedRehearsal};
 
 /// The words of a generator are those of its recurrence: each state is the one before and a constant.
@@ -33,6 +33,12 @@ pub fn a_rehearsal_is_reached()
 /// the same commands, values and aliases, and the same answers of searches and lists of names.
 pub fn a_rehearsal_ends_alike()
     ensures { InEachRehearsal EndAlike }
+{}
+
+/// What all nodes hold at the end of a rehearsal is all that its hosts made: each chain of each host is as it was at
+/// the host's own node before the last transfers.
+pub fn a_rehearsal_ends_with_all()
+    ensures { InEachRehearsal HasAll }
 {}
 
 /// The words of a generator, bytes that are drawn of them, the key and the hosts, worked out.

@@ -1,5 +1,5 @@
 -- Arguments of the kinds of a call's number are those of a call, and of one call alone.
-use Rattle.std.proofs.Common.{◌≡◌, ℕ, zero, suc, ◌-◌, ◌^◌, ◌<◌, ◌≤◌, ℤ, pos, negsuc, Bool, true, false, eqb, List, [], ◌∷◌, length, Option, Some, refl, sym, ap, subst, ◌∙◌, arith}
+use Rattle.std.proofs.Common.{◌≡◌, ℕ, zero, suc, ◌-◌, ◌^◌, ◌<◌, ◌≤◌, ℤ, pos, negsuc, Bool, true, false, eqb, List, [], ◌∷◌, length, Option, Some, None, refl, sym, ap, subst, ◌∙◌, arith}
 use Rattle.std.specs.Prelude.{◌==◌, if◌then◌else◌}
 use Rattle.std.proofs.lemmas.Bool.{eqb-true}
 use Rattle.definitions.specs.Calls.{SearchMode, by_prefix, by_substring, mode_number, Argument, a_text, an_integer, Kind, any_text, id_digits, signed_64, from_to, start_kinds, end_kinds, IsOfKind, SpellsArguments}
@@ -7,8 +7,9 @@ use Rattle.definitions.specs.Reading.{id_value}
 use Rattle.definitions.proofs.Ids.{id_value-id_text}
 use Rattle.definitions.proofs.Numbered.{by_test}
 use Rattle.view_rules.specs.Answers.{Scope, of_all, of_hostname, of_session, of_cwd, ScopedQuery}
-use Rattle.step_rules.specs.Calls.{most_listed, Call, start_call, end_call, delete_call, search_call, kv_set_call, kv_get_call, kv_list_call, alias_set_call, alias_delete_call, alias_list_call, status_call}
-use Rattle.request_rules.specs.Requests.{request_number, limit_kind, delete_kinds, search_kinds, one_text, two_texts, three_texts, kv_list_kinds, alias_list_kinds, no_kinds, call_kinds, scope_number, IsScopeText, unique_number, a_number, an_id, HasArguments}
+use Rattle.step_rules.specs.Calls.{most_listed, Call, start_call, end_call, delete_call, search_call, kv_set_call, kv_delete_call, kv_get_call, kv_list_call, alias_set_call, alias_delete_call, alias_list_call, status_call}
+use Rattle.request_rules.specs.Reading.{mode_of, scope_of, unique_of, search_of, call_from}
+use Rattle.request_rules.specs.Requests.{end_number, request_number, limit_kind, authored_kinds, delete_kinds, search_kinds, one_text, two_texts, three_texts, kv_list_kinds, alias_list_kinds, no_kinds, call_kinds, scope_number, IsScopeText, unique_number, a_number, an_id, author_argument, HasArguments}
 
 -- ---- the kinds of a call's arguments
 
@@ -31,11 +32,13 @@ pub record EachRow (P : ℕ → List Kind → Type 0) : Type 0 where
   pub alias_delete : P 9 one_text
   pub alias_list : P 10 alias_list_kinds
   pub status : P 11 no_kinds
+  pub authored_end : P 12 authored_kinds
+  pub kv_delete : P 13 two_texts
 
 row : (P : ℕ → List Kind → Type 0) (n c : ℕ) (kinds all : List Kind) → P n kinds → eqb c n ≡ true → some_kinds kinds ≡ Some all → P c all
 row P n c kinds all p t e = subst (λ (x : ℕ). P x all) (sym (eqb-true c n t)) (subst (λ (ks : List Kind). P n ks) (same_kinds kinds all e) p)
 
--- a number of a call is one of eleven
+-- a number of a call is one of thirteen
 pub kinds_are : (P : ℕ → List Kind → Type 0) → EachRow P → (c : ℕ) (all : List Kind) → call_kinds c ≡ Some all → P c all
 kinds_are P rows c all e =
     by_test (eqb c 1) (λ t. row P 1 c start_kinds all rows.start t (rw t at e)) (λ f. let e1 = rw f at e in
@@ -48,7 +51,9 @@ kinds_are P rows c all e =
     by_test (eqb c 8) (λ t. row P 8 c two_texts all rows.alias_set t (rw t at e7)) (λ f. let e8 = rw f at e7 in
     by_test (eqb c 9) (λ t. row P 9 c one_text all rows.alias_delete t (rw t at e8)) (λ f. let e9 = rw f at e8 in
     by_test (eqb c 10) (λ t. row P 10 c alias_list_kinds all rows.alias_list t (rw t at e9)) (λ f. let e10 = rw f at e9 in
-    by_test (eqb c 11) (λ t. row P 11 c no_kinds all rows.status t (rw t at e10)) (λ f. absurd (let none = rw f at e10 in cc))))))))))))
+    by_test (eqb c 11) (λ t. row P 11 c no_kinds all rows.status t (rw t at e10)) (λ f. let e11 = rw f at e10 in
+    by_test (eqb c 12) (λ t. row P 12 c authored_kinds all rows.authored_end t (rw t at e11)) (λ f. let e12 = rw f at e11 in
+    by_test (eqb c 13) (λ t. row P 13 c two_texts all rows.kv_delete t (rw t at e12)) (λ f. absurd (let none = rw f at e12 in cc))))))))))))))
 
 pub most_kinds : (c : ℕ) (all : List Kind) → call_kinds c ≡ Some all → length all ≤ 7
 most_kinds c all e =
@@ -65,6 +70,8 @@ most_kinds c all e =
       alias_delete = omega arith;
       alias_list = omega arith;
       status = omega arith;
+      authored_end = omega arith;
+      kv_delete = omega arith;
     }) c all e
 
 -- ---- the first argument, by its kind
@@ -148,7 +155,15 @@ end_is good s =
     let a = id_first (signed_64 ∷ signed_64 ∷ []) good s in
     let b = integer_first (signed_64 ∷ []) a.1 a.3 in
     let c = integer_first [] b.1 b.3 in
-    (end_call a.0 b.0 c.0, refl, (a.4, joined good a.1 _ (an_id a.0) a.2 (joined a.1 b.1 _ (an_integer b.0) b.2 (joined b.1 c.1 _ (an_integer c.0) c.2 (no_argument c.1 c.3)))))
+    (end_call a.0 b.0 c.0 None, refl, (a.4, joined good a.1 _ (an_id a.0) a.2 (joined a.1 b.1 _ (an_integer b.0) b.2 (joined b.1 c.1 _ (an_integer c.0) c.2 (no_argument c.1 c.3)))))
+
+authored_end_is : Row 12 authored_kinds
+authored_end_is good s =
+    let a = id_first (signed_64 ∷ signed_64 ∷ any_text ∷ []) good s in
+    let b = integer_first (signed_64 ∷ any_text ∷ []) a.1 a.3 in
+    let c = integer_first (any_text ∷ []) b.1 b.3 in
+    let d = text_first [] c.1 c.3 in
+    (end_call a.0 b.0 c.0 (Some d.0), refl, (a.4, joined good a.1 _ (an_id a.0) a.2 (joined a.1 b.1 _ (an_integer b.0) b.2 (joined b.1 c.1 _ (an_integer c.0) c.2 (joined c.1 d.1 _ (a_text d.0) d.2 (no_argument d.1 d.3))))))
 
 delete_is : Row 3 delete_kinds
 delete_is good s =
@@ -245,56 +260,11 @@ call_is c all good spelled e s =
       alias_delete = alias_delete_is;
       alias_list = alias_list_is;
       status = status_is;
+      authored_end = authored_end_is;
+      kv_delete = texts_are 13 kv_delete_call (λ a b. refl) (λ a b good e. e);
     }) c all e good (spelled, s)
 
 -- ---- a call from its number and its arguments
-
-abbrev argument_of : ℕ → List Argument → Argument
-argument_of n [] = a_text []
-argument_of zero (a ∷ more) = a
-argument_of (suc n) (a ∷ more) = argument_of n more
-
-abbrev text_in : Argument → List ℕ
-text_in (a_text text) = text
-text_in (an_integer z) = []
-
-abbrev integer_in : Argument → ℤ
-integer_in (a_text text) = pos 0
-integer_in (an_integer z) = z
-
-abbrev magnitude : ℤ → ℕ
-magnitude (pos n) = n
-magnitude (negsuc n) = n
-
-abbrev text_of : ℕ → List Argument → List ℕ
-text_of n good = text_in (argument_of n good)
-
-abbrev integer_of : ℕ → List Argument → ℤ
-integer_of n good = integer_in (argument_of n good)
-
-abbrev natural_of : ℕ → List Argument → ℕ
-natural_of n good = magnitude (integer_of n good)
-
-abbrev mode_of : ℕ → SearchMode
-mode_of zero = by_prefix
-mode_of (suc n) = by_substring
-
-abbrev scope_of : ℕ → List ℕ → Scope
-scope_of zero text = of_all
-scope_of (suc zero) text = of_hostname text
-scope_of (suc (suc zero)) text = of_session text
-scope_of (suc (suc (suc n))) text = of_cwd text
-
-abbrev unique_of : ℕ → Bool
-unique_of zero = false
-unique_of (suc n) = true
-
-abbrev search_of : SearchMode → Scope → List ℕ → Bool → ℕ → ℕ → Call
-search_of mode scope text unique offset limit = search_call (record { scope = scope; unique = unique; query = record { mode = mode; text = text; offset = offset; limit = limit } })
-
-abbrev built : ℕ → List Argument → Call
-built n good =
-    if n == 1 then start_call (text_of 0 good) (text_of 1 good) (text_of 2 good) (text_of 3 good) else (if n == 2 then end_call (id_value (text_of 0 good)) (integer_of 1 good) (integer_of 2 good) else (if n == 3 then delete_call (id_value (text_of 0 good)) else (if n == 4 then search_of (mode_of (natural_of 0 good)) (scope_of (natural_of 1 good) (text_of 2 good)) (text_of 3 good) (unique_of (natural_of 4 good)) (natural_of 5 good) (natural_of 6 good) else (if n == 5 then kv_set_call (text_of 0 good) (text_of 1 good) (text_of 2 good) else (if n == 6 then kv_get_call (text_of 0 good) (text_of 1 good) else (if n == 7 then kv_list_call (text_of 0 good) (text_of 1 good) (natural_of 2 good) else (if n == 8 then alias_set_call (text_of 0 good) (text_of 1 good) else (if n == 9 then alias_delete_call (text_of 0 good) else (if n == 10 then alias_list_call (text_of 0 good) (natural_of 1 good) else status_call)))))))))
 
 mode_back : (mode : SearchMode) → mode_of (mode_number mode) ≡ mode
 mode_back by_prefix = refl
@@ -313,21 +283,23 @@ unique_back true = refl
 same_search : (m m' : SearchMode) (s s' : Scope) (u u' : Bool) (text : List ℕ) (offset limit : ℕ) → m ≡ m' → s ≡ s' → u ≡ u' → search_of m s text u offset limit ≡ search_of m' s' text u' offset limit
 same_search m m' s s' u u' text offset limit e f g = rw (e, f, g) refl
 
-built_back : (call : Call) (good : List Argument) → HasArguments call good → built (request_number call) good ≡ call
-built_back (start_call command cwd session hostname) good h = ap (built 1) h
-built_back (end_call id duration exit) good h = ap (built 2) h.1 ∙ ap (λ (n : ℕ). end_call n duration exit) (id_value-id_text id h.0)
-built_back (delete_call id) good h = ap (built 3) h.1 ∙ ap delete_call (id_value-id_text id h.0)
+pub built_back : (call : Call) (good : List Argument) → HasArguments call good → call_from (request_number call) good ≡ call
+built_back (start_call command cwd session hostname) good h = ap (call_from 1) h
+built_back (end_call id duration exit None) good h = ap (call_from 2) h.1 ∙ ap (λ (n : ℕ). end_call n duration exit None) (id_value-id_text id h.0)
+built_back (end_call id duration exit (Some author)) good h = ap (call_from 12) h.1 ∙ ap (λ (n : ℕ). end_call n duration exit (Some author)) (id_value-id_text id h.0)
+built_back (delete_call id) good h = ap (call_from 3) h.1 ∙ ap delete_call (id_value-id_text id h.0)
 built_back (search_call asked) good h =
-    ap (built 4) h.2 ∙ same_search (mode_of (mode_number asked.query.mode)) asked.query.mode (scope_of (scope_number asked.scope) h.0) asked.scope (unique_of (unique_number asked.unique)) asked.unique asked.query.text asked.query.offset asked.query.limit
+    ap (call_from 4) h.2 ∙ same_search (mode_of (mode_number asked.query.mode)) asked.query.mode (scope_of (scope_number asked.scope) h.0) asked.scope (unique_of (unique_number asked.unique)) asked.unique asked.query.text asked.query.offset asked.query.limit
     (mode_back asked.query.mode) (scope_back asked.scope h.0 h.1) (unique_back asked.unique)
-built_back (kv_set_call namespace key value) good h = ap (built 5) h
-built_back (kv_get_call namespace key) good h = ap (built 6) h
-built_back (kv_list_call namespace after limit) good h = ap (built 7) h
-built_back (alias_set_call name value) good h = ap (built 8) h
-built_back (alias_delete_call name) good h = ap (built 9) h
-built_back (alias_list_call after limit) good h = ap (built 10) h
-built_back status_call good h = ap (built 11) h
+built_back (kv_set_call namespace key value) good h = ap (call_from 5) h
+built_back (kv_get_call namespace key) good h = ap (call_from 6) h
+built_back (kv_list_call namespace after limit) good h = ap (call_from 7) h
+built_back (alias_set_call name value) good h = ap (call_from 8) h
+built_back (alias_delete_call name) good h = ap (call_from 9) h
+built_back (alias_list_call after limit) good h = ap (call_from 10) h
+built_back status_call good h = ap (call_from 11) h
+built_back (kv_delete_call namespace key) good h = ap (call_from 13) h
 
 -- arguments and a number are those of one call
 pub calls_one : (a b : Call) (good more : List Argument) → HasArguments a good → HasArguments b more → request_number a ≡ request_number b → good ≡ more → a ≡ b
-calls_one a b good more h k n e = sym (built_back a good h) ∙ ap (λ (x : ℕ). built x good) n ∙ ap (λ (x : List Argument). built (request_number b) x) e ∙ built_back b more k
+calls_one a b good more h k n e = sym (built_back a good h) ∙ ap (λ (x : ℕ). call_from x good) n ∙ ap (λ (x : List Argument). call_from (request_number b) x) e ∙ built_back b more k

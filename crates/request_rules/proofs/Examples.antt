@@ -1,5 +1,5 @@
 -- The worked payloads: each is read, and the laws of reading say the rest.
-use Rattle.std.proofs.Common.{◌≡◌, ℕ, zero, suc, ◌-◌, ◌≤◌, ltb, Bool, true, pos, negsuc, List, [], ◌∷◌, ◌++◌, length, Ok, Err, refl, arith}
+use Rattle.std.proofs.Common.{◌≡◌, ℕ, zero, suc, ◌-◌, ◌≤◌, ltb, Bool, true, pos, negsuc, List, [], ◌∷◌, ◌++◌, length, Some, None, Ok, Err, refl, arith}
 use Rattle.std.specs.Prelude.{codes}
 use Rattle.std.specs.List.{list_all}
 use Rattle.std.specs.Str.{is_utf8, chars}
@@ -9,7 +9,7 @@ use Rattle.definitions.specs.Ids.{id_text}
 use Rattle.definitions.specs.Calls.{Argument, a_text, an_integer, WrongAt}
 use Rattle.definitions.specs.Reading.{array_at, integer_at, text_head_at, text_at, argument_at, arguments_at, last_arguments_at, call_at}
 use Rattle.definitions.proofs.Items.{both_true}
-use Rattle.step_rules.specs.Calls.{Call, start_call, end_call, delete_call, search_call, kv_set_call, kv_get_call, kv_list_call, alias_set_call, alias_delete_call, alias_list_call, status_call}
+use Rattle.step_rules.specs.Calls.{Call, start_call, end_call, delete_call, search_call, kv_set_call, kv_delete_call, kv_get_call, kv_list_call, alias_set_call, alias_delete_call, alias_list_call, status_call}
 use Rattle.request_rules.specs.Requests.{request_number, call_kinds, a_number, an_id, search_arguments, HasArguments, SpellsRequest}
 use Rattle.request_rules.specs.Examples.{ten_digits, host_search, plain_search, WorkedCalls, WorkedFaults}
 use Rattle.request_rules.proofs.Requests.{reading_call, reading_place}
@@ -32,9 +32,17 @@ start : SpellsRequest (start_call (codes "ls") (codes "/") (codes "s1") (codes "
 unfolding call_at last_arguments_at arguments_at argument_at array_at integer_at text_at text_head_at id_text is_utf8 chars lib.Utf8.encode
 start = spelled_so (0x95 ∷ 0x01 ∷ 0xa2 ∷ 0x6c ∷ 0x73 ∷ 0xa1 ∷ 0x2f ∷ 0xa2 ∷ 0x73 ∷ 0x31 ∷ 0xa3 ∷ 0x68 ∷ 0x3a ∷ 0x75 ∷ []) (start_call (codes "ls") (codes "/") (codes "s1") (codes "h:u")) (a_text (codes "ls") ∷ a_text (codes "/") ∷ a_text (codes "s1") ∷ a_text (codes "h:u") ∷ []) refl refl refl
 
-end : SpellsRequest (end_call 10 (pos 1000) (negsuc 0)) (0x94 ∷ 0x02 ∷ 0xd9 ∷ 0x20 ∷ (ten_digits ++ 0xcd ∷ 0x03 ∷ 0xe8 ∷ 0xff ∷ []))
+end : SpellsRequest (end_call 10 (pos 1000) (negsuc 0) None) (0x94 ∷ 0x02 ∷ 0xd9 ∷ 0x20 ∷ (ten_digits ++ 0xcd ∷ 0x03 ∷ 0xe8 ∷ 0xff ∷ []))
 unfolding call_at last_arguments_at arguments_at argument_at array_at integer_at text_at text_head_at id_text is_utf8 chars lib.Utf8.encode
-end = spelled_so (0x94 ∷ 0x02 ∷ 0xd9 ∷ 0x20 ∷ (ten_digits ++ 0xcd ∷ 0x03 ∷ 0xe8 ∷ 0xff ∷ [])) (end_call 10 (pos 1000) (negsuc 0)) (an_id 10 ∷ an_integer (pos 1000) ∷ an_integer (negsuc 0) ∷ []) refl (omega arith, refl) refl
+end = spelled_so (0x94 ∷ 0x02 ∷ 0xd9 ∷ 0x20 ∷ (ten_digits ++ 0xcd ∷ 0x03 ∷ 0xe8 ∷ 0xff ∷ [])) (end_call 10 (pos 1000) (negsuc 0) None) (an_id 10 ∷ an_integer (pos 1000) ∷ an_integer (negsuc 0) ∷ []) refl (omega arith, refl) refl
+
+authored_end : SpellsRequest (end_call 10 (pos 1000) (pos 0) (Some (codes "me"))) (0x95 ∷ 0x0c ∷ 0xd9 ∷ 0x20 ∷ (ten_digits ++ 0xcd ∷ 0x03 ∷ 0xe8 ∷ 0x00 ∷ 0xa2 ∷ 0x6d ∷ 0x65 ∷ []))
+unfolding call_at last_arguments_at arguments_at argument_at array_at integer_at text_at text_head_at id_text is_utf8 chars lib.Utf8.encode
+authored_end = spelled_so (0x95 ∷ 0x0c ∷ 0xd9 ∷ 0x20 ∷ (ten_digits ++ 0xcd ∷ 0x03 ∷ 0xe8 ∷ 0x00 ∷ 0xa2 ∷ 0x6d ∷ 0x65 ∷ [])) (end_call 10 (pos 1000) (pos 0) (Some (codes "me"))) (an_id 10 ∷ an_integer (pos 1000) ∷ an_integer (pos 0) ∷ a_text (codes "me") ∷ []) refl (omega arith, refl) refl
+
+kv_delete : SpellsRequest (kv_delete_call (codes "n") (codes "k")) (0x93 ∷ 0x0d ∷ 0xa1 ∷ 0x6e ∷ 0xa1 ∷ 0x6b ∷ [])
+unfolding call_at last_arguments_at arguments_at argument_at array_at integer_at text_at text_head_at id_text is_utf8 chars lib.Utf8.encode
+kv_delete = spelled_so (0x93 ∷ 0x0d ∷ 0xa1 ∷ 0x6e ∷ 0xa1 ∷ 0x6b ∷ []) (kv_delete_call (codes "n") (codes "k")) (a_text (codes "n") ∷ a_text (codes "k") ∷ []) refl refl refl
 
 delete : SpellsRequest (delete_call 10) (0x92 ∷ 0x03 ∷ 0xd9 ∷ 0x20 ∷ ten_digits)
 unfolding call_at last_arguments_at arguments_at argument_at array_at integer_at text_at text_head_at id_text is_utf8 chars lib.Utf8.encode
@@ -88,9 +96,9 @@ nine_items : WrongAt call_kinds (0x99 ∷ 0x0b ∷ []) 0
 unfolding call_at last_arguments_at arguments_at argument_at array_at integer_at text_at text_head_at id_text is_utf8 chars lib.Utf8.encode
 nine_items = wrong_there (0x99 ∷ 0x0b ∷ []) 0 refl (omega arith) refl
 
-number : WrongAt call_kinds (0x95 ∷ 0x0c ∷ []) 1
+number : WrongAt call_kinds (0x95 ∷ 0x0e ∷ []) 1
 unfolding call_at last_arguments_at arguments_at argument_at array_at integer_at text_at text_head_at id_text is_utf8 chars lib.Utf8.encode
-number = wrong_there (0x95 ∷ 0x0c ∷ []) 1 refl (omega arith) refl
+number = wrong_there (0x95 ∷ 0x0e ∷ []) 1 refl (omega arith) refl
 
 negative : WrongAt call_kinds (0x91 ∷ 0xff ∷ []) 1
 unfolding call_at last_arguments_at arguments_at argument_at array_at integer_at text_at text_head_at id_text is_utf8 chars lib.Utf8.encode
@@ -99,6 +107,10 @@ negative = wrong_there (0x91 ∷ 0xff ∷ []) 1 refl (omega arith) refl
 items : WrongAt call_kinds (0x92 ∷ 0x0b ∷ 0x00 ∷ []) 0
 unfolding call_at last_arguments_at arguments_at argument_at array_at integer_at text_at text_head_at id_text is_utf8 chars lib.Utf8.encode
 items = wrong_there (0x92 ∷ 0x0b ∷ 0x00 ∷ []) 0 refl (omega arith) refl
+
+author : WrongAt call_kinds (0x95 ∷ 0x02 ∷ 0xd9 ∷ 0x20 ∷ (ten_digits ++ 0xcd ∷ 0x03 ∷ 0xe8 ∷ 0x00 ∷ 0xa2 ∷ 0x6d ∷ 0x65 ∷ [])) 0
+unfolding call_at last_arguments_at arguments_at argument_at array_at integer_at text_at text_head_at id_text is_utf8 chars lib.Utf8.encode
+author = wrong_there (0x95 ∷ 0x02 ∷ 0xd9 ∷ 0x20 ∷ (ten_digits ++ 0xcd ∷ 0x03 ∷ 0xe8 ∷ 0x00 ∷ 0xa2 ∷ 0x6d ∷ 0x65 ∷ [])) 0 refl (omega arith) refl
 
 id : WrongAt call_kinds (0x92 ∷ 0x03 ∷ 0xa1 ∷ 0x61 ∷ []) 2
 unfolding call_at last_arguments_at arguments_at argument_at array_at integer_at text_at text_head_at id_text is_utf8 chars lib.Utf8.encode
@@ -137,7 +149,7 @@ unfolding call_at last_arguments_at arguments_at argument_at array_at integer_at
 behind = wrong_there (0x91 ∷ 0x0b ∷ 0x00 ∷ []) 2 refl (omega arith) refl
 
 pub calls : WorkedCalls
-calls = record { start = start; end = end; delete = delete; search = search; search_of_all = search_of_all; kv_set = kv_set; kv_get = kv_get; kv_list = kv_list; alias_set = alias_set; alias_delete = alias_delete; alias_list = alias_list; status = status }
+calls = record { start = start; end = end; authored_end = authored_end; kv_delete = kv_delete; delete = delete; search = search; search_of_all = search_of_all; kv_set = kv_set; kv_get = kv_get; kv_list = kv_list; alias_set = alias_set; alias_delete = alias_delete; alias_list = alias_list; status = status }
 
 pub faults : WorkedFaults
-faults = record { nothing = nothing; no_items = no_items; nine_items = nine_items; number = number; negative = negative; items = items; id = id; capital_id = capital_id; mode = mode; filter = filter; unique = unique; limit = limit; great_limit = great_limit; cut = cut; behind = behind }
+faults = record { nothing = nothing; no_items = no_items; nine_items = nine_items; number = number; negative = negative; items = items; author = author; id = id; capital_id = capital_id; mode = mode; filter = filter; unique = unique; limit = limit; great_limit = great_limit; cut = cut; behind = behind }

@@ -1,12 +1,12 @@
 -- What a payload of limited length spells is within the limits of a call.
-use Rattle.std.proofs.Common.{◌≡◌, ℕ, ◌+◌, ◌*◌, ◌<◌, ◌≤◌, pos, List, [], ◌∷◌, ◌++◌, length, Some, refl, sym, ap, subst, ◌∙◌, length-append, arith, inl, inr, ◌⊎◌}
+use Rattle.std.proofs.Common.{◌≡◌, ℕ, ◌+◌, ◌*◌, ◌<◌, ◌≤◌, pos, List, [], ◌∷◌, ◌++◌, length, Some, None, refl, sym, ap, subst, ◌∙◌, length-append, arith, inl, inr, ◌⊎◌}
 use Rattle.definitions.specs.Spelling.{SpellsInteger, SpellsArray, TextForm, fixstr, str_8, str_16, str_32, text_limit, text_head, SpellsText}
 use Rattle.definitions.specs.Calls.{Argument, a_text, an_integer, Kind, end_kinds, SpellsArgument, SpellsArguments}
 use Rattle.definitions.specs.Reading.{integer_at, array_at}
 use Rattle.definitions.proofs.Spelling.{integers_read, arrays_read}
 use Rattle.view_rules.specs.Answers.{Scope, of_all, of_hostname, of_session, of_cwd}
-use Rattle.step_rules.specs.Calls.{Call, start_call, end_call, delete_call, search_call, kv_set_call, kv_get_call, kv_list_call, alias_set_call, alias_delete_call, alias_list_call, status_call, scope_bytes, call_bytes, NumbersFit}
-use Rattle.request_rules.specs.Requests.{request_number, search_kinds, kv_list_kinds, alias_list_kinds, IsScopeText, a_number, an_id, search_arguments, HasArguments, SpellsRequest}
+use Rattle.step_rules.specs.Calls.{Call, start_call, end_call, delete_call, search_call, kv_set_call, kv_delete_call, kv_get_call, kv_list_call, alias_set_call, alias_delete_call, alias_list_call, status_call, scope_bytes, call_bytes, NumbersFit}
+use Rattle.request_rules.specs.Requests.{request_number, authored_kinds, search_kinds, kv_list_kinds, alias_list_kinds, IsScopeText, a_number, an_id, search_arguments, HasArguments, SpellsRequest}
 use Rattle.request_rules.specs.Laws.{SpelledCallFits}
 use Rattle.request_rules.proofs.Arguments.{some_kinds, same_kinds, most_kinds}
 
@@ -18,7 +18,10 @@ as_spelled kinds all good other rest k e s =
 
 numbers_fit : (call : Call) (payload : List ℕ) → SpellsRequest call payload → NumbersFit call
 numbers_fit (start_call command cwd session hostname) payload s = tt
-numbers_fit (end_call id duration exit) payload s =
+numbers_fit (end_call id duration exit (Some author)) payload s =
+    let k = as_spelled authored_kinds s.numbered.all_kinds s.arguments (an_id id ∷ an_integer duration ∷ an_integer exit ∷ a_text author ∷ []) s.numbered.rest s.numbered.kinds_are s.has.1 s.numbered.are_arguments in
+    (s.has.0, k.4.2, k.4.4.2)
+numbers_fit (end_call id duration exit None) payload s =
     let k = as_spelled end_kinds s.numbered.all_kinds s.arguments (an_id id ∷ an_integer duration ∷ an_integer exit ∷ []) s.numbered.rest s.numbered.kinds_are s.has.1 s.numbered.are_arguments in
     (s.has.0, k.4.2, k.4.4.2)
 numbers_fit (delete_call id) payload s = s.has.0
@@ -27,6 +30,7 @@ numbers_fit (search_call asked) payload s =
     let most = k.4.4.4.4.4.2.1 in
     (omega (arith, most), k.4.4.4.4.4.4.2)
 numbers_fit (kv_set_call namespace key value) payload s = tt
+numbers_fit (kv_delete_call namespace key) payload s = tt
 numbers_fit (kv_get_call namespace key) payload s = tt
 numbers_fit (kv_list_call namespace after limit) payload s =
     let k = as_spelled kv_list_kinds s.numbered.all_kinds s.arguments (a_text namespace ∷ a_text after ∷ a_number limit ∷ []) s.numbered.rest s.numbered.kinds_are s.has s.numbered.are_arguments in
@@ -97,10 +101,12 @@ scope_text (of_cwd cwd) text i = let l = ap (λ (x : List ℕ). length x) i in o
 
 all_texts : (call : Call) (good : List Argument) → HasArguments call good → call_bytes call ≤ texts_bytes good
 all_texts (start_call command cwd session hostname) good h = let l = ap texts_bytes h in omega (arith, l)
-all_texts (end_call id duration exit) good h = omega arith
+all_texts (end_call id duration exit None) good h = omega arith
+all_texts (end_call id duration exit (Some author)) good h = let l = ap texts_bytes h.1 in omega (arith, l)
 all_texts (delete_call id) good h = omega arith
 all_texts (search_call asked) good h = let l = ap texts_bytes h.2 in let scope = scope_text asked.scope h.0 h.1 in omega (arith, l, scope)
 all_texts (kv_set_call namespace key value) good h = let l = ap texts_bytes h in omega (arith, l)
+all_texts (kv_delete_call namespace key) good h = let l = ap texts_bytes h in omega (arith, l)
 all_texts (kv_get_call namespace key) good h = let l = ap texts_bytes h in omega (arith, l)
 all_texts (kv_list_call namespace after limit) good h = let l = ap texts_bytes h in omega (arith, l)
 all_texts (alias_set_call name value) good h = let l = ap texts_bytes h in omega (arith, l)

@@ -1,8 +1,8 @@
 -- Worked examples: a payload of each call, and payloads that are wrong. Texts are ASCII.
-use Rattle.std.specs.Prelude.{ℕ, pos, negsuc, List, [], ◌∷◌, ◌++◌, codes, true, false}
+use Rattle.std.specs.Prelude.{ℕ, pos, negsuc, List, [], ◌∷◌, ◌++◌, codes, true, false, Some, None}
 use Rattle.definitions.specs.Calls.{by_prefix, by_substring, WrongAt}
 use Rattle.view_rules.specs.Answers.{of_all, of_hostname, ScopedQuery}
-use Rattle.step_rules.specs.Calls.{start_call, end_call, delete_call, search_call, kv_set_call, kv_get_call, kv_list_call, alias_set_call, alias_delete_call, alias_list_call, status_call}
+use Rattle.step_rules.specs.Calls.{start_call, end_call, delete_call, search_call, kv_set_call, kv_delete_call, kv_get_call, kv_list_call, alias_set_call, alias_delete_call, alias_list_call, status_call}
 use Rattle.request_rules.specs.Requests.{call_kinds, SpellsRequest}
 
 -- the id 10 in its digits
@@ -20,7 +20,10 @@ plain_search = record { scope = of_all; unique = false; query = record { mode = 
 pub record WorkedCalls : Type 0 where
   pub start : SpellsRequest (start_call (codes "ls") (codes "/") (codes "s1") (codes "h:u")) (0x95 ∷ 0x01 ∷ 0xa2 ∷ 0x6c ∷ 0x73 ∷ 0xa1 ∷ 0x2f ∷ 0xa2 ∷ 0x73 ∷ 0x31 ∷ 0xa3 ∷ 0x68 ∷ 0x3a ∷ 0x75 ∷ [])
   -- 1,000 ns, status -1
-  pub end : SpellsRequest (end_call 10 (pos 1000) (negsuc 0)) (0x94 ∷ 0x02 ∷ 0xd9 ∷ 0x20 ∷ (ten_digits ++ 0xcd ∷ 0x03 ∷ 0xe8 ∷ 0xff ∷ []))
+  pub end : SpellsRequest (end_call 10 (pos 1000) (negsuc 0) None) (0x94 ∷ 0x02 ∷ 0xd9 ∷ 0x20 ∷ (ten_digits ++ 0xcd ∷ 0x03 ∷ 0xe8 ∷ 0xff ∷ []))
+  -- an End with the author "me", and the deletion of a pair
+  pub authored_end : SpellsRequest (end_call 10 (pos 1000) (pos 0) (Some (codes "me"))) (0x95 ∷ 0x0c ∷ 0xd9 ∷ 0x20 ∷ (ten_digits ++ 0xcd ∷ 0x03 ∷ 0xe8 ∷ 0x00 ∷ 0xa2 ∷ 0x6d ∷ 0x65 ∷ []))
+  pub kv_delete : SpellsRequest (kv_delete_call (codes "n") (codes "k")) (0x93 ∷ 0x0d ∷ 0xa1 ∷ 0x6e ∷ 0xa1 ∷ 0x6b ∷ [])
   pub delete : SpellsRequest (delete_call 10) (0x92 ∷ 0x03 ∷ 0xd9 ∷ 0x20 ∷ ten_digits)
   pub search : SpellsRequest (search_call host_search) (0x98 ∷ 0x04 ∷ 0x01 ∷ 0x01 ∷ 0xa3 ∷ 0x68 ∷ 0x3a ∷ 0x75 ∷ 0xa1 ∷ 0x6c ∷ 0x01 ∷ 0x02 ∷ 0x03 ∷ [])
   -- the filter's text "x" is read past
@@ -41,11 +44,13 @@ pub record WorkedFaults : Type 0 where
   pub no_items : WrongAt call_kinds (0x90 ∷ []) 0
   pub nine_items : WrongAt call_kinds (0x99 ∷ 0x0b ∷ []) 0
   -- a number that no call has is found before the array's length is
-  pub number : WrongAt call_kinds (0x95 ∷ 0x0c ∷ []) 1
+  pub number : WrongAt call_kinds (0x95 ∷ 0x0e ∷ []) 1
   -- and -1 is the number of none
   pub negative : WrongAt call_kinds (0x91 ∷ 0xff ∷ []) 1
   -- a Status with an argument: the array's length is wrong
   pub items : WrongAt call_kinds (0x92 ∷ 0x0b ∷ 0x00 ∷ []) 0
+  -- an End with an author under the number of one without
+  pub author : WrongAt call_kinds (0x95 ∷ 0x02 ∷ 0xd9 ∷ 0x20 ∷ (ten_digits ++ 0xcd ∷ 0x03 ∷ 0xe8 ∷ 0x00 ∷ 0xa2 ∷ 0x6d ∷ 0x65 ∷ [])) 0
   -- a Delete whose id is the text "a", and one whose id has a capital digit
   pub id : WrongAt call_kinds (0x92 ∷ 0x03 ∷ 0xa1 ∷ 0x61 ∷ []) 2
   pub capital_id : WrongAt call_kinds (0x92 ∷ 0x03 ∷ 0xd9 ∷ 0x20 ∷ codes "0000000000000000000000000000000A") 2

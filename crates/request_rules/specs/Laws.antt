@@ -1,10 +1,11 @@
 -- The laws of requests, as statements. Each is the contract of the function of its name.
-use Rattle.std.specs.Prelude.{◌≡◌, ℕ, ◌-◌, ◌≤◌, ◌⊎◌, ◌↔◌, pos, List, length, Ok, Err}
+use Rattle.std.specs.Prelude.{◌≡◌, ℕ, ◌-◌, ◌≤◌, ◌⊎◌, ◌↔◌, pos, List, length, Some, Ok, Err}
 use Rattle.definitions.specs.Spelling.{IsBytes}
 use Rattle.definitions.specs.Calls.{Argument, WrongAt}
 use Rattle.definitions.specs.Reading.{call_at}
 use Rattle.definitions.specs.Frames.{most_payload_bytes}
 use Rattle.step_rules.specs.Calls.{Call, CallFits}
+use Rattle.request_rules.specs.Reading.{request_at}
 use Rattle.request_rules.specs.Requests.{request_number, call_kinds, HasArguments, SpellsRequest}
 
 -- a payload spells one call at most
@@ -29,6 +30,10 @@ ReadingFindsCall = (payload : List ℕ) (call : Call) → IsBytes payload → Sp
 
 abbrev pub ReadingFindsPlace : Type 0
 ReadingFindsPlace = (payload : List ℕ) (place : ℕ) → IsBytes payload → WrongAt call_kinds payload place ↔ ((call_at call_kinds payload ≡ Err (length payload - place)) × (place ≤ length payload))
+
+-- the call is computed: it is found exactly where it is spelled
+abbrev pub RequestIsFound : Type 0
+RequestIsFound = (payload : List ℕ) (call : Call) → IsBytes payload → (request_at payload ≡ Some call) ↔ SpellsRequest call payload
 
 -- what a payload of a frame that is read spells is a call that a store may be asked
 abbrev pub SpelledCallFits : Type 0

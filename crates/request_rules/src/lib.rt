@@ -8,7 +8,7 @@
 //! Each function has an empty body, and its contract is the law that its name says.
 #![tactic(auto)]
 
-ghost use Rattle.request_rules.specs.Laws.{SpellsOneCall, NeverBoth, WrongAtOnePlace, CallOrPlace, ReadingFindsCall, ReadingFindsPlace, SpelledCallFits};
+ghost use Rattle.request_rules.specs.Laws.{SpellsOneCall, NeverBoth, WrongAtOnePlace, CallOrPlace, ReadingFindsCall, ReadingFindsPlace, RequestIsFound, SpelledCallFits};
 ghost use Rattle.request_rules.specs.Examples.{WorkedCalls, WorkedFaults};
 
 /// A payload spells at most one call.
@@ -39,6 +39,12 @@ pub fn reading_finds_the_call()
 /// Reading from left to right stops exactly where the payload is wrong.
 pub fn reading_finds_the_place()
     ensures { ReadingFindsPlace }
+{}
+
+/// The call that a payload spells is computed: it is found exactly where it is spelled, and none is found
+/// where the payload is wrong.
+pub fn the_call_is_found()
+    ensures { RequestIsFound }
 {}
 
 /// What a payload of at most 1,048,576 bytes spells is a call that a store may be asked: its numbers are

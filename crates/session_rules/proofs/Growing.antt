@@ -1,11 +1,11 @@
 -- A turn of a session's pass makes the session longer by one request.
-use Rattle.std.proofs.Common.{◌≡◌, ◌≢◌, ℕ, suc, ◌+◌, ◌≤◌, true, false, cond, ◌⊎◌, inl, inr, Ok, List, [], ◌∷◌, ◌++◌, length, map, take, filter, refl, sym, ◌∙◌, ap, subst, arith, append_assoc, length-append}
+use Rattle.std.proofs.Common.{◌≡◌, ◌≢◌, ℕ, suc, true, false, cond, ◌⊎◌, inl, inr, Ok, List, [], ◌∷◌, ◌++◌, length, map, take, filter, refl, sym, ◌∙◌, ap, subst, arith, append_assoc, length-append}
 use Rattle.std.specs.Prelude.{All}
 use Rattle.std.proofs.lemmas.Bool.{true≢false, eq-eqb, ne_eqb}
 use Rattle.std.proofs.lemmas.List.{append-nil, append_cancel_left, take_at}
-use Rattle.std.proofs.lemmas.List.Elements.{filter-append, All-append, All-map}
+use Rattle.std.proofs.lemmas.List.Elements.{filter-append, All-map, All-weaker}
 use Rattle.definitions.specs.Step.{Used, used_nothing, then_used}
-use Rattle.definitions.proofs.Runs.{then_used-assoc, nothing-then_used, then_used-nothing}
+use Rattle.definitions.proofs.Runs.{then_used-nothing}
 use Rattle.record_rules.specs.Records.{SealedRecord, Caller, Entry}
 use Rattle.record_rules.specs.Journal.{own_events, records_of}
 use Rattle.record_rules.specs.Growth.{fresh_of, first_refusal, taken_entry, grow}
@@ -14,16 +14,16 @@ use Rattle.step_rules.specs.Calls.{Call, is_read}
 use Rattle.step_rules.specs.Answers.{Answer, Reply}
 use Rattle.step_rules.specs.Store.{KeyedStore}
 use Rattle.step_rules.specs.Step.{Ready, Step, long_step, unknown_step, full_step, taken_step, append_step, read_step}
-use Rattle.step_rules.specs.Turn.{settled_entry, settled, is_refusal, UsedSome, used_clock, used_bytes, Turn, read_turn, short_read_turn, unsettled_turn, step_turn, undrawn_turn, uncommitted_turn, short_turn, short_settled_turn}
+use Rattle.step_rules.specs.Turn.{settled_entry, settled, is_refusal, UsedBeforeFailing, used_clock, used_bytes, Turn, read_turn, short_unread_turn, unsettled_turn, step_turn, undrawn_turn, uncommitted_turn, short_turn, short_settled_turn}
 use Rattle.step_rules.specs.PageTurns.{PageAnswer, PageTurn, unsettled_page, taken_page, refused_page, uncommitted_page, short_page, short_settled_page}
 use Rattle.step_rules.specs.ReadTurns.{StoreRead, ReadAnswer, ReadTurn, tells_status, tells_page, tells_front, faults_on_page, wants_memory}
 use Rattle.step_rules.proofs.Steps.{Step-adds}
 use Rattle.step_rules.proofs.ReadTurns.{ReadTurn-stands}
 use Rattle.step_rules.proofs.Outcomes.{shows_read}
-use Rattle.session_rules.specs.Sessions.{Asked, a_call, a_page, SessionAnswer, to_call, to_page, SessionReply, caller_of, Told, told_step, told_disk_fault, told_random_fault, told_no_memory, told_no_memory_to_read, told_bad, told_no_memory_for_bad, told_page, told_page_refused, told_page_disk_fault, told_page_no_memory, told_read, told_unrouted, told_no_memory_for_unrouted, Serves, is_of, Session}
-use Rattle.session_rules.specs.Turns.{TurnAnswers, answers_call, answers_bad, answers_page, answers_read, answers_unrouted}
+use Rattle.session_rules.specs.Sessions.{Asked, a_call, a_page, SessionAnswer, to_call, to_page, SessionReply, caller_of, Told, told_step, told_disk_fault, told_random_fault, told_no_memory, told_no_memory_at_once, told_bad, told_no_memory_for_bad, told_page, told_page_refused, told_page_disk_fault, told_page_no_memory, told_read, told_unrouted, told_no_memory_for_unrouted, SessionRequest, is_of, Session}
+use Rattle.session_rules.specs.Turns.{TurnAnswers, answers_call, answers_unread, answers_bad, answers_page, answers_read, answers_unrouted}
 use Rattle.session_rules.specs.Laws.{AddsOwn}
-use Rattle.session_rules.proofs.Sessions.{serves_still, none_kept, session_still}
+use Rattle.session_rules.proofs.Sessions.{none_kept, session_still, sessions_follow}
 
 whole : (xs : List Entry) → take (length xs) xs ≡ xs
 whole xs = ap (take (length xs)) (sym (append-nil xs)) ∙ take_at xs [] (length xs) refl
@@ -38,17 +38,21 @@ pub record Turned (store : KeyedStore) (journal doubt : List Entry) (caller : Ca
   pub front_is : reply.front ≡ length after
   pub settles_are : (settles ≡ []) ⊎ (settles ≡ map settled_entry doubt)
   -- what is settled is of no pass
-  pub quiet : (number : ℕ) → number ≢ 0 → All (λ entry. is_of number entry ≡ false) settles
+  pub of_none : All (λ (entry : Entry). entry.caller.number ≡ 0) settles
   pub of_caller : All (λ (entry : Entry). entry.caller ≡ caller) commit
   pub told : Told store after caller asked reply.front used reply.answer commit
 
-settled_quiet : (doubt : List Entry) (number : ℕ) → number ≢ 0 → All (λ entry. is_of number entry ≡ false) (map settled_entry doubt)
-settled_quiet doubt number named = All-map (λ entry. is_of number entry ≡ false) settled_entry doubt (λ k d below. ne_eqb 0 number (λ e. named (sym e)))
+settled_of_none : (doubt : List Entry) → All (λ (entry : Entry). entry.caller.number ≡ 0) (map settled_entry doubt)
+settled_of_none doubt = All-map (λ (entry : Entry). entry.caller.number ≡ 0) settled_entry doubt (λ k d below. refl)
+
+-- and isn't of any that has a number
+not_of_any : (settles : List Entry) (number : ℕ) → number ≢ 0 → All (λ (entry : Entry). entry.caller.number ≡ 0) settles → All (λ entry. is_of number entry ≡ false) settles
+not_of_any settles number named none = All-weaker (λ (entry : Entry). entry.caller.number ≡ 0) (λ entry. is_of number entry ≡ false) (λ entry zero. ne_eqb entry.caller.number number (λ same. named (sym same ∙ zero))) settles none
 
 -- a commit that was tried had drawn its bytes
-used_by_commit : (store : KeyedStore) (journal : List Entry) (caller : Caller) (call : Call) (used : Used) (after : List Entry) (answer : Answer) → is_read call ≡ false → is_refusal answer ≡ false → Step store journal caller call used after answer → UsedSome store journal call used
+used_by_commit : (store : KeyedStore) (journal : List Entry) (caller : Caller) (call : Call) (used : Used) (after : List Entry) (answer : Answer) → is_read call ≡ false → is_refusal answer ≡ false → Step store journal caller call used after answer → UsedBeforeFailing store journal call used
 used_by_commit store journal caller call used after answer writes taken (long_step _ _ _ _ r) = absurd (true≢false (sym (ap is_refusal r.answer_is) ∙ taken))
-used_by_commit store journal caller call used after answer writes taken (unknown_step _ _ _ _ r) = absurd (true≢false (sym (ap is_refusal r.answer_is) ∙ taken))
+used_by_commit store journal caller call used after answer writes taken (unknown_step _ _ _ _ _ r) = absurd (true≢false (sym (ap is_refusal r.answer_is) ∙ taken))
 used_by_commit store journal caller call used after answer writes taken (full_step _ _ _ _ _ _ _ r) = absurd (true≢false (sym (ap is_refusal r.answer_is) ∙ taken))
 used_by_commit store journal caller call used after answer writes taken (taken_step _ _ _ _ _ _ _ r) = absurd (true≢false (sym (ap is_refusal r.answer_is) ∙ taken))
 used_by_commit store journal caller call used after answer writes taken (append_step now drawn draft is many ready _ _ _) = used_bytes now draft drawn ready many is
@@ -61,11 +65,11 @@ answered_at after answer = record { front = length after; answer = answer }
 module _ (store : KeyedStore) (journal doubt : List Entry) (caller : Caller) (asked : Asked) (used : Used) (after : List Entry) (answer : SessionAnswer) where
   -- nothing settled, nothing committed
   nothing_turned : after ≡ journal → Told store after caller asked (length after) used answer [] → Turned store journal doubt caller asked used after (answered_at after answer)
-  nothing_turned stays told = record { settles = []; settles_are = inl refl; commit = []; after_is = stays ∙ sym (append-nil journal); front_is = refl; quiet = λ number named k d below. absurd (omega arith); of_caller = λ k d below. absurd (omega arith); told = told }
+  nothing_turned stays told = record { settles = []; settles_are = inl refl; commit = []; after_is = stays ∙ sym (append-nil journal); front_is = refl; of_none = λ k d below. absurd (omega arith); of_caller = λ k d below. absurd (omega arith); told = told }
 
   settled_turned : (commit : List Entry) → after ≡ settled journal doubt ++ commit → All (λ (entry : Entry). entry.caller ≡ caller) commit → Told store after caller asked (length after) used answer commit → Turned store journal doubt caller asked used after (answered_at after answer)
   settled_turned commit after_is own told =
-      record { settles = map settled_entry doubt; settles_are = inr refl; commit = commit; after_is = after_is ∙ append_assoc journal (map settled_entry doubt) commit; front_is = refl; quiet = settled_quiet doubt; of_caller = own; told = told }
+      record { settles = map settled_entry doubt; settles_are = inr refl; commit = commit; after_is = after_is ∙ append_assoc journal (map settled_entry doubt) commit; front_is = refl; of_none = settled_of_none doubt; of_caller = own; told = told }
 
   only_settled : after ≡ settled journal doubt → Told store after caller asked (length after) used answer [] → Turned store journal doubt caller asked used after (answered_at after answer)
   only_settled after_is told = settled_turned [] (after_is ∙ sym (append-nil (settled journal doubt))) (λ k d below. absurd (omega arith)) told
@@ -86,12 +90,12 @@ module _ (store : KeyedStore) (journal doubt : List Entry) (caller : Caller) (ca
   settled_alone = only_settled store journal doubt caller asked used after answer
 
   -- what was used at a journal that it left
-  used_after : (left : List Entry) → after ≡ left → UsedSome store left call used → UsedSome store (take (length after) after) call used
-  used_after left same some = subst (λ j. UsedSome store j call used) (sym (whole after ∙ same)) some
+  used_after : (left : List Entry) → after ≡ left → UsedBeforeFailing store left call used → UsedBeforeFailing store (take (length after) after) call used
+  used_after left same some = subst (λ j. UsedBeforeFailing store j call used) (sym (whole after ∙ same)) some
 
   turn_is_told : Turn store journal doubt caller call used after doubt_after reply → Turned store journal doubt caller asked used after (answered_at after answer)
   turn_is_told (read_turn given u shows l) = stayed l.journal_is (by_step journal [] given (l.journal_is ∙ sym (append-nil journal)) l.reply_is (read_step u shows l.journal_is))
-  turn_is_told (short_read_turn reads u l) = stayed l.journal_is (told_no_memory_to_read call is reads u (answer_is _ l.reply_is) refl)
+  turn_is_told (short_unread_turn u l) = stayed l.journal_is (told_no_memory_at_once call is u (answer_is _ l.reply_is) refl)
   turn_is_told (unsettled_turn now writes _ u l) = stayed l.journal_is (told_disk_fault call is writes (used_clock now u) (answer_is _ l.reply_is) refl)
   turn_is_told (step_turn made given writes step l) =
       let left : Step store (settled journal doubt) caller call used after given = subst (λ j. Step store (settled journal doubt) caller call used j given) (sym l.journal_is) step in
@@ -141,8 +145,9 @@ module _ (store : KeyedStore) (journal doubt : List Entry) (caller : Caller) (as
   left_alone : after ≡ journal → Told store after caller asked (length after) used answer [] → Turned store journal doubt caller asked used after (answered_at after answer)
   left_alone = nothing_turned store journal doubt caller asked used after answer
 
-  answers_are_told : TurnAnswers store journal doubt caller asked used after doubt_after answer → Turned store journal doubt caller asked used after (answered_at after answer)
+  pub answers_are_told : TurnAnswers store journal doubt caller asked used after doubt_after answer → Turned store journal doubt caller asked used after (answered_at after answer)
   answers_are_told (answers_call call reply is turn told) = turn_is_told store journal doubt caller call used after doubt_after reply asked answer is told turn
+  answers_are_told (answers_unread call is u l told) = left_alone l.journal_is (told_no_memory_at_once call is u told refl)
   answers_are_told (answers_bad place is u l (inl told)) = left_alone l.journal_is (told_bad place is u told refl)
   answers_are_told (answers_bad place is u l (inr told)) = left_alone l.journal_is (told_no_memory_for_bad place is u told refl)
   answers_are_told (answers_page owner records given is u turn told) = page_is_told store journal doubt caller owner records used after doubt_after given asked answer is u told turn
@@ -167,7 +172,7 @@ lost_or_left caller left batch doubt_after (inr kept) is own = subst (All (λ (e
 
 doubt_of_call : (store : KeyedStore) (journal doubt : List Entry) (caller : Caller) (call : Call) (used : Used) (after doubt_after : List Entry) (reply : Reply) → Turn store journal doubt caller call used after doubt_after reply → (doubt_after ≡ doubt) ⊎ All (λ (entry : Entry). entry.caller ≡ caller) doubt_after
 doubt_of_call store journal doubt caller call used after doubt_after reply (read_turn _ _ _ l) = inl l.doubt_is
-doubt_of_call store journal doubt caller call used after doubt_after reply (short_read_turn _ _ l) = inl l.doubt_is
+doubt_of_call store journal doubt caller call used after doubt_after reply (short_unread_turn _ l) = inl l.doubt_is
 doubt_of_call store journal doubt caller call used after doubt_after reply (unsettled_turn _ _ _ _ l) = inl l.doubt_is
 doubt_of_call store journal doubt caller call used after doubt_after reply (step_turn _ _ _ _ l) = inr (none_of_caller caller doubt_after l.doubt_is)
 doubt_of_call store journal doubt caller call used after doubt_after reply (undrawn_turn _ _ _ _ l) = inr (none_of_caller caller doubt_after l.doubt_is)
@@ -185,6 +190,7 @@ doubt_of_page journal doubt caller owner records after doubt_after given (short_
 
 doubt_of_turn : (store : KeyedStore) (journal doubt : List Entry) (caller : Caller) (asked : Asked) (used : Used) (after doubt_after : List Entry) (answer : SessionAnswer) → TurnAnswers store journal doubt caller asked used after doubt_after answer → (doubt_after ≡ doubt) ⊎ All (λ (entry : Entry). entry.caller ≡ caller) doubt_after
 doubt_of_turn store journal doubt caller asked used after doubt_after answer (answers_call call reply _ turn _) = doubt_of_call store journal doubt caller call used after doubt_after reply turn
+doubt_of_turn store journal doubt caller asked used after doubt_after answer (answers_unread _ _ _ l _) = inl l.doubt_is
 doubt_of_turn store journal doubt caller asked used after doubt_after answer (answers_bad _ _ _ l _) = inl l.doubt_is
 doubt_of_turn store journal doubt caller asked used after doubt_after answer (answers_page owner records given _ _ turn _) = doubt_of_page journal doubt caller owner records after doubt_after given turn
 doubt_of_turn store journal doubt caller asked used after doubt_after answer (answers_read read given _ _ turn _) = inl (ReadTurn-stands journal doubt read after doubt_after given turn).doubt_is
@@ -202,92 +208,37 @@ turn_adds_own store journal doubt caller asked used after doubt_after answer tur
       in_doubt = doubt_of_turn store journal doubt caller asked used after doubt_after answer turn;
     }
 
--- so it adds nothing of any other pass
-pub turn_adds_no_others : (store : KeyedStore) (journal doubt : List Entry) (caller : Caller) (asked : Asked) (used : Used) (after doubt_after : List Entry) (answer : SessionAnswer) → TurnAnswers store journal doubt caller asked used after doubt_after answer
-    → (number : ℕ) → number ≢ 0 → number ≢ caller.number → (added : List Entry) × (after ≡ journal ++ added) × All (λ entry. is_of number entry ≡ false) added
-turn_adds_no_others store journal doubt caller asked used after doubt_after answer turn number named other =
-    let turned = answers_are_told store journal doubt caller asked used after doubt_after answer turn in (
-      turned.settles ++ turned.commit,
-      turned.after_is,
-      All-append (λ entry. is_of number entry ≡ false) turned.settles turned.commit (turned.quiet number named) (λ k d below. ne_eqb _ number (λ same. other (sym same ∙ ap (λ (c : Caller). c.number) (turned.of_caller k d below)))),
-    )
-
 -- ---- one request more
-
--- the front of the last reply
-abbrev last_front : ℕ → List SessionReply → ℕ
-last_front from [] = from
-last_front from (reply ∷ replies) = last_front reply.front replies
-
-module _ (store : KeyedStore) (journal : List Entry) (number : ℕ) where
-  last_within : (from call : ℕ) (asked : List Asked) (used : Used) (replies : List SessionReply) (commits : List Entry) → Serves store journal number from call asked used replies commits → from ≤ length journal → last_front from replies ≤ length journal
-  last_within from call [] used [] commits serves within = within
-  last_within from call (a ∷ more) used (r ∷ replies) commits serves within = last_within r.front (call + 1) more serves.0.used_later replies serves.0.commits_later serves.1 serves.0.within
-  last_within from call [] used (r ∷ replies) commits serves within = absurd serves
-  last_within from call (a ∷ more) used [] commits serves within = absurd serves
-
-  serves_more : (from call : ℕ) (asked : List Asked) (used : Used) (replies : List SessionReply) (commits : List Entry) (a : Asked) (used_here : Used) (reply : SessionReply) (commit : List Entry)
-      → Serves store journal number from call asked used replies commits → last_front from replies + length commit ≤ reply.front → reply.front ≤ length journal → Told store journal (caller_of number (call + length asked)) a reply.front used_here reply.answer commit
-      → Serves store journal number from call (asked ++ a ∷ []) (then_used used used_here) (replies ++ reply ∷ []) (commits ++ commit)
-  serves_more from call [] used [] commits a used_here reply commit serves behind within told = (
-    record {
-      used_here = used_here;
-      used_later = used_nothing;
-      commit = commit;
-      commits_later = [];
-      used_is = ap (λ u. then_used u used_here) serves.0 ∙ nothing-then_used used_here ∙ sym (then_used-nothing used_here);
-      commits_are = ap (λ c. c ++ commit) serves.1 ∙ sym (append-nil commit);
-      behind = behind;
-      within = within;
-      told = subst (λ n. Told store journal (caller_of number n) a reply.front used_here reply.answer commit) (omega arith) told;
-    },
-    (refl, refl),
-  )
-  serves_more from call (b ∷ more) used (r ∷ replies) commits a used_here reply commit serves behind within told =
-      let one = serves.0 in (
-        record {
-          used_here = one.used_here;
-          used_later = then_used one.used_later used_here;
-          commit = one.commit;
-          commits_later = one.commits_later ++ commit;
-          used_is = ap (λ u. then_used u used_here) one.used_is ∙ then_used-assoc one.used_here one.used_later used_here;
-          commits_are = ap (λ c. c ++ commit) one.commits_are ∙ append_assoc one.commit one.commits_later commit;
-          behind = one.behind;
-          within = one.within;
-          told = one.told;
-        },
-        serves_more r.front (call + 1) more one.used_later replies one.commits_later a used_here reply commit serves.1 behind within (subst (λ n. Told store journal (caller_of number n) a reply.front used_here reply.answer commit) (omega arith) told),
-      )
-  serves_more from call [] used (r ∷ replies) commits a used_here reply commit serves behind within told = absurd serves
-  serves_more from call (b ∷ more) used [] commits a used_here reply commit serves behind within told = absurd serves
 
 all_kept : (number : ℕ) (commit : List Entry) → All (λ entry. is_of number entry ≡ true) commit → filter (is_of number) commit ≡ commit
 all_kept number [] own = refl
 all_kept number (entry ∷ commit) own =
     ap (λ b. cond b (entry ∷ filter (is_of number) commit) (filter (is_of number) commit)) (own 0 entry (omega arith)) ∙ ap (λ rest. entry ∷ rest) (all_kept number commit (λ k d below. own (suc k) d (omega arith)))
 
-module _ (store : KeyedStore) (seen : List Entry) (number : ℕ) (asked : List Asked) (used : Used) (replies : List SessionReply) (journal more : List Entry) (named : number ≢ 0) (session : Session store seen number asked used replies journal) (others : All (λ entry. is_of number entry ≡ false) more) where
-  grows_by : (a : Asked) (used_here : Used) (doubt after : List Entry) (reply : SessionReply) → Turned store (journal ++ more) doubt (caller_of number (length asked + 1)) a used_here after reply → Session store seen number (asked ++ a ∷ []) (then_used used used_here) (replies ++ reply ∷ []) after
-  grows_by a used_here doubt after reply turned =
-      let still = session_still store seen number asked used replies journal more session others in
-      let longer = serves_still store (journal ++ more) number (turned.settles ++ turned.commit) (length seen) 1 asked used replies still.commits still.serves in
-      let there : Serves store after number (length seen) 1 asked used replies still.commits = subst (λ j. Serves store j number (length seen) 1 asked used replies still.commits) (sym turned.after_is) longer in
-      let seen_within : length seen ≤ length (journal ++ more) = subst (λ j. length seen ≤ length j) (sym still.begins) (let all = length-append seen still.since in omega arith) in
-      let last : last_front (length seen) replies ≤ length (journal ++ more) = last_within store (journal ++ more) number (length seen) 1 asked used replies still.commits still.serves seen_within in
-      let front = turned.front_is ∙ ap length turned.after_is ∙ length-append (journal ++ more) (turned.settles ++ turned.commit) in
-      let parts = length-append turned.settles turned.commit in
-      let end : reply.front ≤ length after = subst (λ n. n ≤ length after) (sym turned.front_is) (omega arith) in
-      let own : filter (is_of number) turned.commit ≡ turned.commit = all_kept number turned.commit (λ k d below. eq-eqb _ number (ap (λ (c : Caller). c.number) (turned.of_caller k d below))) in
-      record {
-        since = still.since ++ (turned.settles ++ turned.commit);
-        begins = turned.after_is ∙ ap (λ j. j ++ (turned.settles ++ turned.commit)) still.begins ∙ append_assoc seen still.since (turned.settles ++ turned.commit);
-        commits = still.commits ++ turned.commit;
-        serves = serves_more store after number (length seen) 1 asked used replies still.commits a used_here reply turned.commit there (omega (arith, last, front, parts)) end
-            (subst (λ n. Told store after (caller_of number n) a reply.front used_here reply.answer turned.commit) (omega arith) turned.told);
-        own_are = filter-append (is_of number) still.since (turned.settles ++ turned.commit) ∙ ap (λ c. c ++ filter (is_of number) (turned.settles ++ turned.commit)) still.own_are
-            ∙ ap (λ rest. still.commits ++ rest) (filter-append (is_of number) turned.settles turned.commit ∙ ap (λ c. c ++ filter (is_of number) turned.commit) (none_kept number turned.settles (turned.quiet number named)) ∙ own);
-      }
+-- a turn is a session of one request
+pub turn_is_session : (store : KeyedStore) (journal doubt : List Entry) (number : ℕ) (one : SessionRequest) (used : Used) (after : List Entry) (reply : SessionReply) → number ≢ 0 → Turned store journal doubt (caller_of number one.call) one.asked used after reply
+    → Session store journal number (one ∷ []) used (reply ∷ []) after
+turn_is_session store journal doubt number one used after reply named turned =
+    let caller : Caller = caller_of number one.call in
+    let own : filter (is_of number) turned.commit ≡ turned.commit = all_kept number turned.commit (λ k d below. eq-eqb _ number (ap (λ (c : Caller). c.number) (turned.of_caller k d below))) in
+    let all = ap length turned.after_is ∙ length-append journal (turned.settles ++ turned.commit) in
+    let parts = length-append turned.settles turned.commit in
+    let front : reply.front ≡ length after = turned.front_is in
+    record {
+      since = turned.settles ++ turned.commit;
+      begins = turned.after_is;
+      served = record { request = one; used = used; commit = turned.commit; reply = reply } ∷ [];
+      requests_are = refl;
+      used_is = then_used-nothing used;
+      replies_are = refl;
+      serves = (record { behind = omega (arith, front, all, parts); within = omega (arith, front); told = turned.told }, tt);
+      own_are = filter-append (is_of number) turned.settles turned.commit ∙ ap (λ c. c ++ filter (is_of number) turned.commit) (none_kept number turned.settles (not_of_any turned.settles number named turned.of_none)) ∙ own ∙ sym (append-nil turned.commit);
+    }
 
-  pub session_grows : (doubt : List Entry) (one : Asked) (used_here : Used) (after doubt_after : List Entry) (answer : SessionAnswer) → TurnAnswers store (journal ++ more) doubt (caller_of number (length asked + 1)) one used_here after doubt_after answer
-      → Session store seen number (asked ++ one ∷ []) (then_used used used_here) (replies ++ record { front = length after; answer = answer } ∷ []) after
-  session_grows doubt one used_here after doubt_after answer turn = grows_by one used_here doubt after (answered_at after answer) (answers_are_told store (journal ++ more) doubt (caller_of number (length asked + 1)) one used_here after doubt_after answer turn)
+pub session_grows : (store : KeyedStore) (seen : List Entry) (number : ℕ) (requests : List SessionRequest) (used : Used) (replies : List SessionReply) (journal more doubt : List Entry) (one : SessionRequest) (used_here : Used) (after doubt_after : List Entry) (answer : SessionAnswer)
+    → number ≢ 0 → Session store seen number requests used replies journal → All (λ entry. is_of number entry ≡ false) more → TurnAnswers store (journal ++ more) doubt (caller_of number one.call) one.asked used_here after doubt_after answer
+    → Session store seen number (requests ++ one ∷ []) (then_used used used_here) (replies ++ record { front = length after; answer = answer } ∷ []) after
+session_grows store seen number requests used replies journal more doubt one used_here after doubt_after answer named session others turn =
+    let turned = answers_are_told store (journal ++ more) doubt (caller_of number one.call) one.asked used_here after doubt_after answer turn in
+    sessions_follow store seen number requests used replies (journal ++ more) (one ∷ []) used_here (answered_at after answer ∷ []) after
+    (session_still store seen number requests used replies journal more session others) (turn_is_session store (journal ++ more) doubt number one used_here after (answered_at after answer) named turned)

@@ -1,5 +1,5 @@
 -- What requests of HTTP are told, and what may be told of a fault of the disk.
-use Rattle.std.proofs.Common.{◌≡◌, ℕ, zero, suc, ◌+◌, ◌<◌, true, false, List, [], ◌∷◌, length, take, get_or, Some, refl, sym, ◌∙◌, ap, subst, arith}
+use Rattle.std.proofs.Common.{◌≡◌, ℕ, zero, suc, ◌+◌, ◌<◌, true, false, List, [], ◌∷◌, length, map, take, get_or, Some, refl, sym, ◌∙◌, ap, subst, arith}
 use Rattle.std.specs.Prelude.{slice_get, All}
 use Rattle.std.specs.List.{Contains}
 use Rattle.std.proofs.lemmas.Bool.{true≢false}
@@ -10,11 +10,11 @@ use Rattle.record_rules.specs.Growth.{PageTooLong, PageForked, PageGap, PageFull
 use Rattle.step_rules.specs.Store.{KeyedStore}
 use Rattle.step_rules.specs.PageTurns.{PageAnswer, took, page_refused, page_faulted, page_no_memory}
 use Rattle.step_rules.specs.ReadTurns.{StoreRead, ReadAnswer, told_status, told_page as told_records, told_front, read_faulted, read_no_memory, ReadTurn, tells_status, tells_page, tells_front, faults_on_page, wants_memory}
-use Rattle.session_rules.specs.Sessions.{Asked, a_read, SessionAnswer, to_page, to_read, to_unrouted, SessionReply, Told, told_step, told_disk_fault, told_random_fault, told_no_memory, told_no_memory_to_read, told_bad, told_no_memory_for_bad, told_page, told_page_refused, told_page_disk_fault, told_page_no_memory, told_read, told_unrouted, told_no_memory_for_unrouted, Serves, Session}
+use Rattle.session_rules.specs.Sessions.{Asked, a_read, SessionAnswer, to_page, to_read, to_unrouted, SessionReply, Told, told_step, told_disk_fault, told_random_fault, told_no_memory, told_no_memory_at_once, told_bad, told_no_memory_for_bad, told_page, told_page_refused, told_page_disk_fault, told_page_no_memory, told_read, told_unrouted, told_no_memory_for_unrouted, SessionRequest, numbered_from, asked_in, ServedRequest, requests_of, replies_of, used_by, caller_of, Serves, Session}
 use Rattle.session_rules.specs.Passes.{tells_disk_fault}
 use Rattle.session_rules.specs.Http.{route_codes, IsHttp, MayFault, response_code, at_fronts, HttpSession}
 use Rattle.session_rules.specs.Laws.{Responds}
-use Rattle.session_rules.proofs.Sessions.{as_many, told_at}
+use Rattle.session_rules.proofs.Sessions.{as_many, session_told_at}
 use Rattle.session_rules.proofs.Telling.{step_tells_none}
 
 -- ---- faults of the disk
@@ -35,7 +35,7 @@ module _ (store : KeyedStore) (journal : List Entry) (caller : Caller) (asked : 
   told_may_fault (told_disk_fault _ is writes _ _ _) told = subst MayFault (sym is) writes
   told_may_fault (told_random_fault _ _ _ _ _ _ same _) told = absurd (no_fault answer _ same refl told)
   told_may_fault (told_no_memory _ _ _ _ same _) told = absurd (no_fault answer _ same refl told)
-  told_may_fault (told_no_memory_to_read _ _ _ _ same _) told = absurd (no_fault answer _ same refl told)
+  told_may_fault (told_no_memory_at_once _ _ _ same _) told = absurd (no_fault answer _ same refl told)
   told_may_fault (told_bad _ _ _ same _) told = absurd (no_fault answer _ same refl told)
   told_may_fault (told_no_memory_for_bad _ _ _ same _) told = absurd (no_fault answer _ same refl told)
   told_may_fault (told_page _ _ _ is _ _ _ _) told = subst MayFault (sym is) tt
@@ -46,11 +46,11 @@ module _ (store : KeyedStore) (journal : List Entry) (caller : Caller) (asked : 
   told_may_fault (told_unrouted _ _ _ same _) told = absurd (no_fault answer _ same refl told)
   told_may_fault (told_no_memory_for_unrouted _ _ _ same _) told = absurd (no_fault answer _ same refl told)
 
-pub faults_have_causes : (store : KeyedStore) (seen : List Entry) (number : ℕ) (asked : List Asked) (used : Used) (replies : List SessionReply) (journal : List Entry) (k : ℕ) (a : Asked) (reply : SessionReply) → Session store seen number asked used replies journal → slice_get asked k ≡ Some a → slice_get replies k ≡ Some reply
-    → tells_disk_fault reply.answer ≡ true → MayFault a
-faults_have_causes store seen number asked used replies journal k a reply session at_k told_k told =
-    let here = told_at store journal number (length seen) 1 asked used replies session.commits k a reply session.serves at_k told_k in
-    told_may_fault store journal _ a reply.front here.used reply.answer here.commit here.told told
+pub faults_have_causes : (store : KeyedStore) (seen : List Entry) (number : ℕ) (requests : List SessionRequest) (used : Used) (replies : List SessionReply) (journal : List Entry) (k : ℕ) (request : SessionRequest) (reply : SessionReply) → Session store seen number requests used replies journal → slice_get requests k ≡ Some request → slice_get replies k ≡ Some reply
+    → tells_disk_fault reply.answer ≡ true → MayFault request.asked
+faults_have_causes store seen number requests used replies journal k request reply session at_k told_k told =
+    let here = session_told_at store seen number requests used replies journal k request reply session at_k told_k in
+    told_may_fault store journal (caller_of number request.call) request.asked reply.front here.used reply.answer here.commit here.told told
 
 -- ---- what is used
 
@@ -60,7 +60,7 @@ module _ (store : KeyedStore) (journal : List Entry) (caller : Caller) (asked : 
   told_uses_nothing (told_disk_fault _ is _ _ _ _) http = absurd (subst IsHttp is http)
   told_uses_nothing (told_random_fault _ _ _ is _ _ _ _) http = absurd (subst IsHttp is http)
   told_uses_nothing (told_no_memory _ is _ _ _ _) http = absurd (subst IsHttp is http)
-  told_uses_nothing (told_no_memory_to_read _ _ _ u _ _) http = u
+  told_uses_nothing (told_no_memory_at_once _ _ u _ _) http = u
   told_uses_nothing (told_bad _ _ u _ _) http = u
   told_uses_nothing (told_no_memory_for_bad _ _ u _ _) http = u
   told_uses_nothing (told_page _ _ _ _ _ _ u _) http = u
@@ -71,19 +71,16 @@ module _ (store : KeyedStore) (journal : List Entry) (caller : Caller) (asked : 
   told_uses_nothing (told_unrouted _ _ u _ _) http = u
   told_uses_nothing (told_no_memory_for_unrouted _ _ u _ _) http = u
 
-module _ (store : KeyedStore) (journal : List Entry) (number : ℕ) where
-  served_uses_nothing : (from call : ℕ) (asked : List Asked) (used : Used) (replies : List SessionReply) (commits : List Entry) → Serves store journal number from call asked used replies commits → All IsHttp asked → used ≡ used_nothing
-  served_uses_nothing from call [] used [] commits serves http = serves.0
-  served_uses_nothing from call (a ∷ more) used (r ∷ replies) commits serves http =
-      let one = serves.0 in
-      let here = told_uses_nothing store journal _ a r.front one.used_here r.answer one.commit one.told (All-head IsHttp a more http) in
-      let later = served_uses_nothing r.front (call + 1) more one.used_later replies one.commits_later serves.1 (All-tail IsHttp a more http) in
-      one.used_is ∙ ap (λ u. then_used u one.used_later) here ∙ ap (then_used used_nothing) later
-  served_uses_nothing from call [] used (r ∷ replies) commits serves http = absurd serves
-  served_uses_nothing from call (a ∷ more) used [] commits serves http = absurd serves
+served_uses_nothing : (store : KeyedStore) (journal : List Entry) (number from : ℕ) (served : List ServedRequest) → Serves store journal number from served → All IsHttp (asked_in (requests_of served)) → used_by served ≡ used_nothing
+served_uses_nothing store journal number from [] serves http = refl
+served_uses_nothing store journal number from (one ∷ more) serves http =
+    let here = told_uses_nothing store journal _ one.request.asked one.reply.front one.used one.reply.answer one.commit serves.0.told (All-head IsHttp one.request.asked (asked_in (requests_of more)) http) in
+    let later = served_uses_nothing store journal number one.reply.front more serves.1 (All-tail IsHttp one.request.asked (asked_in (requests_of more)) http) in
+    ap (λ u. then_used u (used_by more)) here ∙ ap (then_used used_nothing) later
 
-pub http_uses_nothing : (store : KeyedStore) (seen : List Entry) (number : ℕ) (asked : List Asked) (used : Used) (replies : List SessionReply) (journal : List Entry) → All IsHttp asked → Session store seen number asked used replies journal → used ≡ used_nothing
-http_uses_nothing store seen number asked used replies journal http session = served_uses_nothing store journal number (length seen) 1 asked used replies session.commits session.serves http
+pub http_uses_nothing : (store : KeyedStore) (seen : List Entry) (number : ℕ) (requests : List SessionRequest) (used : Used) (replies : List SessionReply) (journal : List Entry) → All IsHttp (asked_in requests) → Session store seen number requests used replies journal → used ≡ used_nothing
+http_uses_nothing store seen number requests used replies journal http session =
+    sym session.used_is ∙ served_uses_nothing store journal number (length seen) session.served session.serves (subst (λ rs. All IsHttp (asked_in rs)) (sym session.requests_are) http)
 
 -- ---- responses
 
@@ -122,7 +119,7 @@ module _ (store : KeyedStore) (journal : List Entry) (caller : Caller) (asked : 
   told_responds (told_disk_fault _ is _ _ _ _) http = absurd (subst IsHttp is http)
   told_responds (told_random_fault _ _ _ is _ _ _ _) http = absurd (subst IsHttp is http)
   told_responds (told_no_memory _ is _ _ _ _) http = absurd (subst IsHttp is http)
-  told_responds (told_no_memory_to_read _ is _ _ _ _) http = absurd (subst IsHttp is http)
+  told_responds (told_no_memory_at_once _ is _ _ _) http = absurd (subst IsHttp is http)
   told_responds (told_bad _ is _ _ _) http = absurd (subst IsHttp is http)
   told_responds (told_no_memory_for_bad _ is _ _ _) http = absurd (subst IsHttp is http)
   told_responds (told_page _ _ _ _ _ _ _ same) http = subst Responds (sym same) (page_responds _)
@@ -139,20 +136,36 @@ at_fronts-length (front ∷ fronts) (answer ∷ answers) many = let rest = at_fr
 at_fronts-length [] (answer ∷ answers) many = absurd (omega (arith, many))
 at_fronts-length (front ∷ fronts) [] many = absurd (omega (arith, many))
 
-module _ (store : KeyedStore) (journal : List Entry) (number : ℕ) where
-  served_respond : (from call : ℕ) (asked : List Asked) (used : Used) (fronts : List ℕ) (answers : List SessionAnswer) (commits : List Entry) → Serves store journal number from call asked used (at_fronts fronts answers) commits → All IsHttp asked → length fronts ≡ length answers → All Responds answers
-  served_respond from call asked used [] [] commits serves http many = All-nil Responds
-  served_respond from call (a ∷ more) used (front ∷ fronts) (answer ∷ answers) commits serves http many =
-      let one = serves.0 in
-      All-cons Responds answer answers (told_responds store journal _ a front one.used_here answer one.commit one.told (All-head IsHttp a more http))
-      (served_respond front (call + 1) more one.used_later fronts answers one.commits_later serves.1 (All-tail IsHttp a more http) (omega (arith, many)))
-  served_respond from call [] used (front ∷ fronts) (answer ∷ answers) commits serves http many = absurd serves
-  served_respond from call asked used [] (answer ∷ answers) commits serves http many = absurd (omega (arith, many))
-  served_respond from call asked used (front ∷ fronts) [] commits serves http many = absurd (omega (arith, many))
+answers_in : List SessionReply → List SessionAnswer
+answers_in replies = map (λ (reply : SessionReply). reply.answer) replies
+
+at_fronts-answers : (fronts : List ℕ) (answers : List SessionAnswer) → length fronts ≡ length answers → answers_in (at_fronts fronts answers) ≡ answers
+unfolding answers_in
+at_fronts-answers [] [] many = refl
+at_fronts-answers (front ∷ fronts) (answer ∷ answers) many = ap (λ rest. answer ∷ rest) (at_fronts-answers fronts answers (omega (arith, many)))
+at_fronts-answers [] (answer ∷ answers) many = absurd (omega (arith, many))
+at_fronts-answers (front ∷ fronts) [] many = absurd (omega (arith, many))
+
+numbered-length : (call : ℕ) (asked : List Asked) → length (numbered_from call asked) ≡ length asked
+numbered-length call [] = refl
+numbered-length call (a ∷ asked) = let rest = numbered-length (call + 1) asked in omega (arith, rest)
+
+pub numbered-asked : (call : ℕ) (asked : List Asked) → asked_in (numbered_from call asked) ≡ asked
+numbered-asked call [] = refl
+numbered-asked call (a ∷ asked) = ap (λ rest. a ∷ rest) (numbered-asked (call + 1) asked)
+
+served_respond : (store : KeyedStore) (journal : List Entry) (number from : ℕ) (served : List ServedRequest) → Serves store journal number from served → All IsHttp (asked_in (requests_of served)) → All Responds (answers_in (replies_of served))
+unfolding answers_in
+served_respond store journal number from [] serves http = All-nil Responds
+served_respond store journal number from (one ∷ more) serves http =
+    All-cons Responds one.reply.answer (answers_in (replies_of more))
+    (told_responds store journal _ one.request.asked one.reply.front one.used one.reply.answer one.commit serves.0.told (All-head IsHttp one.request.asked (asked_in (requests_of more)) http))
+    (served_respond store journal number one.reply.front more serves.1 (All-tail IsHttp one.request.asked (asked_in (requests_of more)) http))
 
 pub requests_get_responses : (store : KeyedStore) (seen : List Entry) (number : ℕ) (asked : List Asked) (fronts : List ℕ) (answers : List SessionAnswer) (journal : List Entry) → HttpSession store seen number asked fronts answers journal → (length asked ≡ length answers) × All Responds answers
-requests_get_responses store seen number asked fronts answers journal session =
-    let serves = session.session.serves in (
-      as_many store journal number (length seen) 1 asked used_nothing (at_fronts fronts answers) session.session.commits serves ∙ at_fronts-length fronts answers session.as_many,
-      served_respond store journal number (length seen) 1 asked used_nothing fronts answers session.session.commits serves session.of_http session.as_many,
+requests_get_responses store seen number asked fronts answers journal http =
+    let session = http.session in
+    let of_http : All IsHttp (asked_in (requests_of session.served)) = subst (All IsHttp) (sym (ap asked_in session.requests_are ∙ numbered-asked 1 asked)) http.of_http in (
+      sym (numbered-length 1 asked) ∙ as_many store seen number (numbered_from 1 asked) used_nothing (at_fronts fronts answers) journal session ∙ at_fronts-length fronts answers http.as_many,
+      subst (All Responds) (ap answers_in session.replies_are ∙ at_fronts-answers fronts answers http.as_many) (served_respond store journal number (length seen) session.served session.serves of_http),
     )

@@ -8,3 +8,7 @@ pub mod Passes
 pub mod Books
 pub mod Http
 pub mod Stored
+pub mod Owners
+pub mod Stores
+pub mod Within
+pub mod Shown

@@ -4,132 +4,177 @@ use Rattle.std.specs.Prelude.{slice_get, All}
 use Rattle.std.specs.List.{Contains}
 use Rattle.std.proofs.lemmas.Bool.{cases_Bool, eqb-true}
 use Rattle.std.proofs.lemmas.Option.{none-some, same_Some}
-use Rattle.std.proofs.lemmas.List.{append-nil, take-append-le}
+use Rattle.std.proofs.lemmas.List.{append-nil, take-append-le, length-map, map-append}
 use Rattle.std.proofs.lemmas.List.Elements.{filter-append}
-use Rattle.definitions.specs.Step.{Used}
-use Rattle.record_rules.specs.Records.{Entry}
+use Rattle.std.proofs.lemmas.Grind.{flat_map-append}
+use Rattle.definitions.specs.Step.{Used, used_nothing, then_used}
+use Rattle.definitions.proofs.Runs.{then_used-assoc, nothing-then_used}
+use Rattle.record_rules.specs.Records.{Caller, Entry}
 use Rattle.record_rules.specs.Growth.{grow}
 use Rattle.record_rules.proofs.Members.{Has}
-use Rattle.view_rules.proofs.Chains.{Has-from_Contains}
+use Rattle.view_rules.proofs.Records.{Has-from_Contains}
 use Rattle.step_rules.specs.Store.{KeyedStore}
 use Rattle.step_rules.specs.Step.{Ready, Step}
-use Rattle.step_rules.specs.Turn.{UsedSome}
+use Rattle.step_rules.specs.Turn.{UsedBeforeFailing}
 use Rattle.step_rules.specs.ReadTurns.{ReadTurn}
-use Rattle.session_rules.specs.Sessions.{Asked, SessionReply, caller_of, Told, told_step, told_disk_fault, told_random_fault, told_no_memory, told_no_memory_to_read, told_bad, told_no_memory_for_bad, told_page, told_page_refused, told_page_disk_fault, told_page_no_memory, told_read, told_unrouted, told_no_memory_for_unrouted, Serves, is_of, Session}
+use Rattle.session_rules.specs.Sessions.{Asked, SessionAnswer, SessionReply, caller_of, Told, told_step, told_disk_fault, told_random_fault, told_no_memory, told_no_memory_at_once, told_bad, told_no_memory_for_bad, told_page, told_page_refused, told_page_disk_fault, told_page_no_memory, told_read, told_unrouted, told_no_memory_for_unrouted, SessionRequest, ServedRequest, requests_of, replies_of, commits_of, used_by, Serves, is_of, Session}
+
+-- the front of the last reply
+abbrev pub last_front : ℕ → List ServedRequest → ℕ
+last_front from [] = from
+last_front from (one ∷ more) = last_front one.reply.front more
+
+pub used_by-append : (one two : List ServedRequest) → used_by (one ++ two) ≡ then_used (used_by one) (used_by two)
+used_by-append [] two = sym (nothing-then_used (used_by two))
+used_by-append (x ∷ one) two = ap (then_used x.used) (used_by-append one two) ∙ sym (then_used-assoc x.used (used_by one) (used_by two))
 
 module _ (store : KeyedStore) (journal : List Entry) (number : ℕ) where
-  pub as_many : (from call : ℕ) (asked : List Asked) (used : Used) (replies : List SessionReply) (commits : List Entry) → Serves store journal number from call asked used replies commits → length asked ≡ length replies
-  as_many from call [] used [] commits serves = refl
-  as_many from call (a ∷ more) used (reply ∷ replies) commits serves = let rest = as_many reply.front (call + 1) more serves.0.used_later replies serves.0.commits_later serves.1 in omega arith
-  as_many from call [] used (reply ∷ replies) commits serves = absurd serves
-  as_many from call (a ∷ more) used [] commits serves = absurd serves
-
   -- ---- what is told
 
-  pub record ToldAt (call : ℕ) (asked : Asked) (reply : SessionReply) : Type 0 where
+  pub record ToldAt (request : SessionRequest) (reply : SessionReply) : Type 0 where
     pub used : Used
     pub commit : List Entry
-    pub told : Told store journal (caller_of number call) asked reply.front used reply.answer commit
+    pub told : Told store journal (caller_of number request.call) request.asked reply.front used reply.answer commit
 
-  pub told_at : (from call : ℕ) (asked : List Asked) (used : Used) (replies : List SessionReply) (commits : List Entry) (k : ℕ) (a : Asked) (reply : SessionReply) → Serves store journal number from call asked used replies commits → slice_get asked k ≡ Some a → slice_get replies k ≡ Some reply → ToldAt (call + k) a reply
-  told_at from call [] used [] commits k a reply serves at_k told_k = absurd (none-some a at_k)
-  told_at from call (b ∷ more) used (r ∷ replies) commits zero a reply serves at_k told_k =
-      let same_asked : b ≡ a = same_Some b a at_k in
-      let same_reply : r ≡ reply = same_Some r reply told_k in
-      let here : ToldAt call b r = record { used = serves.0.used_here; commit = serves.0.commit; told = serves.0.told } in
-      subst (λ n. ToldAt n a reply) (omega arith) (subst (λ (x : Asked). ToldAt call x reply) same_asked (subst (λ (x : SessionReply). ToldAt call b x) same_reply here))
-  told_at from call (b ∷ more) used (r ∷ replies) commits (suc k) a reply serves at_k told_k =
-      let later = told_at r.front (call + 1) more serves.0.used_later replies serves.0.commits_later k a reply serves.1 at_k told_k in
-      subst (λ n. ToldAt n a reply) (omega arith) later
-  told_at from call [] used (r ∷ replies) commits k a reply serves at_k told_k = absurd serves
-  told_at from call (b ∷ more) used [] commits k a reply serves at_k told_k = absurd serves
+  pub told_at : (from : ℕ) (served : List ServedRequest) (k : ℕ) (request : SessionRequest) (reply : SessionReply) → Serves store journal number from served → slice_get (requests_of served) k ≡ Some request → slice_get (replies_of served) k ≡ Some reply → ToldAt request reply
+  told_at from [] k request reply serves at_k told_k = absurd (none-some request at_k)
+  told_at from (one ∷ more) zero request reply serves at_k told_k =
+      let here : ToldAt one.request one.reply = record { used = one.used; commit = one.commit; told = serves.0.told } in
+      subst (λ (x : SessionRequest). ToldAt x reply) (same_Some one.request request at_k) (subst (λ (x : SessionReply). ToldAt one.request x) (same_Some one.reply reply told_k) here)
+  told_at from (one ∷ more) (suc k) request reply serves at_k told_k = told_at one.reply.front more k request reply serves.1 at_k told_k
 
   -- ---- where
 
-  pub fronts_behind : (from call : ℕ) (asked : List Asked) (used : Used) (replies : List SessionReply) (commits : List Entry) (k : ℕ) (s : SessionReply) → Serves store journal number from call asked used replies commits → slice_get replies k ≡ Some s → (from ≤ s.front) × (s.front ≤ length journal)
-  fronts_behind from call [] used [] commits k s serves at = absurd (none-some s at)
-  fronts_behind from call (a ∷ more) used (r ∷ replies) commits zero s serves at =
-      let same : r ≡ s = same_Some r s at in
-      let behind : from + length serves.0.commit ≤ r.front = serves.0.behind in
-      subst (λ (x : SessionReply). (from ≤ x.front) × (x.front ≤ length journal)) same (omega arith, serves.0.within)
-  fronts_behind from call (a ∷ more) used (r ∷ replies) commits (suc k) s serves at =
-      let later = fronts_behind r.front (call + 1) more serves.0.used_later replies serves.0.commits_later k s serves.1 at in
-      let behind : from + length serves.0.commit ≤ r.front = serves.0.behind in
-      let low : r.front ≤ s.front = later.0 in
+  pub fronts_behind : (from : ℕ) (served : List ServedRequest) (k : ℕ) (s : SessionReply) → Serves store journal number from served → slice_get (replies_of served) k ≡ Some s → (from ≤ s.front) × (s.front ≤ length journal)
+  fronts_behind from [] k s serves at = absurd (none-some s at)
+  fronts_behind from (one ∷ more) zero s serves at =
+      let behind : from + length one.commit ≤ one.reply.front = serves.0.behind in
+      subst (λ (x : SessionReply). (from ≤ x.front) × (x.front ≤ length journal)) (same_Some one.reply s at) (omega arith, serves.0.within)
+  fronts_behind from (one ∷ more) (suc k) s serves at =
+      let later = fronts_behind one.reply.front more k s serves.1 at in
+      let behind : from + length one.commit ≤ one.reply.front = serves.0.behind in
+      let low : one.reply.front ≤ s.front = later.0 in
       (omega arith, later.1)
-  fronts_behind from call [] used (r ∷ replies) commits k s serves at = absurd serves
-  fronts_behind from call (a ∷ more) used [] commits k s serves at = absurd (none-some s at)
 
-  pub fronts_rise : (from call : ℕ) (asked : List Asked) (used : Used) (replies : List SessionReply) (commits : List Entry) (i k : ℕ) (r s : SessionReply) → Serves store journal number from call asked used replies commits → i ≤ k → slice_get replies i ≡ Some r → slice_get replies k ≡ Some s → r.front ≤ s.front
-  fronts_rise from call [] used [] commits i k r s serves below at_i at_k = absurd (none-some s at_k)
-  fronts_rise from call (a ∷ more) used (x ∷ replies) commits zero zero r s serves below at_i at_k = let same : r ≡ s = sym (same_Some x r at_i) ∙ same_Some x s at_k in subst (λ (y : SessionReply). r.front ≤ y.front) same (omega arith)
-  fronts_rise from call (a ∷ more) used (x ∷ replies) commits zero (suc k) r s serves below at_i at_k =
-      let later = fronts_behind x.front (call + 1) more serves.0.used_later replies serves.0.commits_later k s serves.1 at_k in
-      subst (λ (y : SessionReply). y.front ≤ s.front) (same_Some x r at_i) later.0
-  fronts_rise from call (a ∷ more) used (x ∷ replies) commits (suc i) zero r s serves below at_i at_k = absurd (omega arith)
-  fronts_rise from call (a ∷ more) used (x ∷ replies) commits (suc i) (suc k) r s serves below at_i at_k = fronts_rise x.front (call + 1) more serves.0.used_later replies serves.0.commits_later i k r s serves.1 (omega arith) at_i at_k
-  fronts_rise from call [] used (x ∷ replies) commits i k r s serves below at_i at_k = absurd serves
-  fronts_rise from call (a ∷ more) used [] commits i k r s serves below at_i at_k = absurd (none-some s at_k)
+  pub fronts_rise : (from : ℕ) (served : List ServedRequest) (i k : ℕ) (r s : SessionReply) → Serves store journal number from served → i ≤ k → slice_get (replies_of served) i ≡ Some r → slice_get (replies_of served) k ≡ Some s → r.front ≤ s.front
+  fronts_rise from [] i k r s serves below at_i at_k = absurd (none-some s at_k)
+  fronts_rise from (one ∷ more) zero zero r s serves below at_i at_k = let same : r ≡ s = sym (same_Some one.reply r at_i) ∙ same_Some one.reply s at_k in subst (λ (y : SessionReply). r.front ≤ y.front) same (omega arith)
+  fronts_rise from (one ∷ more) zero (suc k) r s serves below at_i at_k = subst (λ (y : SessionReply). y.front ≤ s.front) (same_Some one.reply r at_i) (fronts_behind one.reply.front more k s serves.1 at_k).0
+  fronts_rise from (one ∷ more) (suc i) zero r s serves below at_i at_k = absurd (omega arith)
+  fronts_rise from (one ∷ more) (suc i) (suc k) r s serves below at_i at_k = fronts_rise one.reply.front more i k r s serves.1 (omega arith) at_i at_k
+
+  pub last_within : (from : ℕ) (served : List ServedRequest) → Serves store journal number from served → from ≤ length journal → last_front from served ≤ length journal
+  last_within from [] serves within = within
+  last_within from (one ∷ more) serves within = last_within one.reply.front more serves.1 serves.0.within
+
+  -- ---- one list behind another one
+
+  -- it may begin earlier
+  pub serves_from : (from earlier : ℕ) (served : List ServedRequest) → earlier ≤ from → Serves store journal number from served → Serves store journal number earlier served
+  serves_from from earlier [] before serves = serves
+  serves_from from earlier (one ∷ more) before serves =
+      let behind : from + length one.commit ≤ one.reply.front = serves.0.behind in
+      (record { behind = omega arith; within = serves.0.within; told = serves.0.told }, serves.1)
+
+  pub serves_then : (from : ℕ) (one two : List ServedRequest) → Serves store journal number from one → Serves store journal number (last_front from one) two → Serves store journal number from (one ++ two)
+  serves_then from [] two first second = second
+  serves_then from (x ∷ one) two first second = (first.0, serves_then x.reply.front one two first.1 second)
 
   -- ---- entries behind
 
   module _ (added : List Entry) where
-    told_still : (call : ℕ) (asked : Asked) (reply : SessionReply) (used : Used) (commit : List Entry) → reply.front ≤ length journal → Told store journal (caller_of number call) asked reply.front used reply.answer commit → Told store (journal ++ added) (caller_of number call) asked reply.front used reply.answer commit
-    told_still call asked reply used commit within (told_step c before given is parts step a) =
-        let same : take reply.front (journal ++ added) ≡ take reply.front journal = take-append-le reply.front journal added within in
-        told_step c before given is (same ∙ parts) (subst (λ j. Step store before (caller_of number call) c used j given) (sym same) step) a
-    told_still call asked reply used commit within (told_bad place is u a c) = told_bad place is u a c
-    told_still call asked reply used commit within (told_disk_fault c is w u a n) = told_disk_fault c is w (subst (λ j. UsedSome store j c used) (sym (take-append-le reply.front journal added within)) u) a n
-    told_still call asked reply used commit within (told_random_fault c draft now is ready u a n) =
-        let same : take reply.front (journal ++ added) ≡ take reply.front journal = take-append-le reply.front journal added within in
-        told_random_fault c draft now is (subst (λ j. Ready store j c draft) (sym same) ready) u a n
-    told_still call asked reply used commit within (told_no_memory c is w u a n) = told_no_memory c is w (subst (λ j. UsedSome store j c used) (sym (take-append-le reply.front journal added within)) u) a n
-    told_still call asked reply used commit within (told_no_memory_to_read c is w u a n) = told_no_memory_to_read c is w u a n
-    told_still call asked reply used commit within (told_no_memory_for_bad place is u a c) = told_no_memory_for_bad place is u a c
-    told_still call asked reply used commit within (told_page owner records before is parts grows u a) = told_page owner records before is (take-append-le reply.front journal added within ∙ parts) grows u a
-    told_still call asked reply used commit within (told_page_refused owner records refusal is grows u a n) =
-        told_page_refused owner records refusal is (ap (λ j. grow j (caller_of number call) owner records) (take-append-le reply.front journal added within) ∙ grows) u a n
-    told_still call asked reply used commit within (told_page_disk_fault owner records is u a n) = told_page_disk_fault owner records is u a n
-    told_still call asked reply used commit within (told_page_no_memory owner records is u a n) = told_page_no_memory owner records is u a n
-    told_still call asked reply used commit within (told_read read given is turn u a n) = told_read read given is (subst (λ j. ReadTurn j [] read j [] given) (sym (take-append-le reply.front journal added within)) turn) u a n
-    told_still call asked reply used commit within (told_unrouted code is u a n) = told_unrouted code is u a n
-    told_still call asked reply used commit within (told_no_memory_for_unrouted code is u a n) = told_no_memory_for_unrouted code is u a n
+    -- what stands before a front stands there still
+    front_still : (front : ℕ) → front ≤ length journal → take front (journal ++ added) ≡ take front journal
+    front_still front within = take-append-le front journal added within
 
-    pub serves_still : (from call : ℕ) (asked : List Asked) (used : Used) (replies : List SessionReply) (commits : List Entry) → Serves store journal number from call asked used replies commits → Serves store (journal ++ added) number from call asked used replies commits
-    serves_still from call [] used [] commits serves = serves
-    serves_still from call (a ∷ more) used (r ∷ replies) commits serves =
-        let one = serves.0 in
-        let within : r.front ≤ length journal = serves.0.within in
+    told_still : (caller : Caller) (asked : Asked) (front : ℕ) (used : Used) (answer : SessionAnswer) (commit : List Entry) → front ≤ length journal → Told store journal caller asked front used answer commit → Told store (journal ++ added) caller asked front used answer commit
+    told_still caller asked front used answer commit within (told_step c before given is parts step a) =
+        told_step c before given is (front_still front within ∙ parts) (subst (λ j. Step store before caller c used j given) (sym (front_still front within)) step) a
+    told_still caller asked front used answer commit within (told_bad place is u a c) = told_bad place is u a c
+    told_still caller asked front used answer commit within (told_disk_fault c is w u a n) = told_disk_fault c is w (subst (λ j. UsedBeforeFailing store j c used) (sym (front_still front within)) u) a n
+    told_still caller asked front used answer commit within (told_random_fault c draft now is ready u a n) = told_random_fault c draft now is (subst (λ j. Ready store j c draft) (sym (front_still front within)) ready) u a n
+    told_still caller asked front used answer commit within (told_no_memory c is w u a n) = told_no_memory c is w (subst (λ j. UsedBeforeFailing store j c used) (sym (front_still front within)) u) a n
+    told_still caller asked front used answer commit within (told_no_memory_at_once c is u a n) = told_no_memory_at_once c is u a n
+    told_still caller asked front used answer commit within (told_no_memory_for_bad place is u a c) = told_no_memory_for_bad place is u a c
+    told_still caller asked front used answer commit within (told_page owner records before is parts grows u a) = told_page owner records before is (front_still front within ∙ parts) grows u a
+    told_still caller asked front used answer commit within (told_page_refused owner records refusal is grows u a n) = told_page_refused owner records refusal is (ap (λ j. grow j caller owner records) (front_still front within) ∙ grows) u a n
+    told_still caller asked front used answer commit within (told_page_disk_fault owner records is u a n) = told_page_disk_fault owner records is u a n
+    told_still caller asked front used answer commit within (told_page_no_memory owner records is u a n) = told_page_no_memory owner records is u a n
+    told_still caller asked front used answer commit within (told_read read given is turn u a n) = told_read read given is (subst (λ j. ReadTurn j [] read j [] given) (sym (front_still front within)) turn) u a n
+    told_still caller asked front used answer commit within (told_unrouted code is u a n) = told_unrouted code is u a n
+    told_still caller asked front used answer commit within (told_no_memory_for_unrouted code is u a n) = told_no_memory_for_unrouted code is u a n
+
+    pub serves_still : (from : ℕ) (served : List ServedRequest) → Serves store journal number from served → Serves store (journal ++ added) number from served
+    serves_still from [] serves = serves
+    serves_still from (one ∷ more) serves =
+        let within : one.reply.front ≤ length journal = serves.0.within in
         let longer = length-append journal added in (
           record {
-            used_here = one.used_here;
-            used_later = one.used_later;
-            commit = one.commit;
-            commits_later = one.commits_later;
-            used_is = one.used_is;
-            commits_are = one.commits_are;
-            behind = one.behind;
+            behind = serves.0.behind;
             within = omega (arith, within, longer);
-            told = told_still call a r one.used_here one.commit one.within one.told;
+            told = told_still (caller_of number one.request.call) one.request.asked one.reply.front one.used one.reply.answer one.commit serves.0.within serves.0.told;
           },
-          serves_still r.front (call + 1) more one.used_later replies one.commits_later serves.1,
+          serves_still one.reply.front more serves.1,
         )
-    serves_still from call [] used (r ∷ replies) commits serves = absurd serves
-    serves_still from call (a ∷ more) used [] commits serves = absurd serves
 
 pub none_kept : (number : ℕ) (more : List Entry) → All (λ entry. is_of number entry ≡ false) more → filter (is_of number) more ≡ []
 none_kept number [] others = refl
 none_kept number (entry ∷ more) others =
     ap (λ b. cond b (entry ∷ filter (is_of number) more) (filter (is_of number) more)) (others 0 entry (omega arith)) ∙ none_kept number more (λ k d below. others (suc k) d (omega arith))
 
-pub session_still : (store : KeyedStore) (seen : List Entry) (number : ℕ) (asked : List Asked) (used : Used) (replies : List SessionReply) (journal more : List Entry) → Session store seen number asked used replies journal → All (λ entry. is_of number entry ≡ false) more → Session store seen number asked used replies (journal ++ more)
-session_still store seen number asked used replies journal more session others = record {
+pub session_still : (store : KeyedStore) (seen : List Entry) (number : ℕ) (requests : List SessionRequest) (used : Used) (replies : List SessionReply) (journal more : List Entry) → Session store seen number requests used replies journal → All (λ entry. is_of number entry ≡ false) more → Session store seen number requests used replies (journal ++ more)
+session_still store seen number requests used replies journal more session others = record {
   since = session.since ++ more;
   begins = ap (λ j. j ++ more) session.begins ∙ append_assoc seen session.since more;
-  commits = session.commits;
-  serves = serves_still store journal number more (length seen) 1 asked used replies session.commits session.serves;
+  served = session.served;
+  requests_are = session.requests_are;
+  used_is = session.used_is;
+  replies_are = session.replies_are;
+  serves = serves_still store journal number more (length seen) session.served session.serves;
   own_are = filter-append (is_of number) session.since more ∙ ap (λ rest. filter (is_of number) session.since ++ rest) (none_kept number more others) ∙ append-nil (filter (is_of number) session.since) ∙ session.own_are;
 }
+
+pub session_begins : (store : KeyedStore) (seen : List Entry) (number : ℕ) → Session store seen number [] used_nothing [] seen
+session_begins store seen number = record { since = []; begins = sym (append-nil seen); served = []; requests_are = refl; used_is = refl; replies_are = refl; serves = tt; own_are = refl }
+
+-- two sessions of one number, the second from where the first ended
+pub sessions_follow : (store : KeyedStore) (seen : List Entry) (number : ℕ) (requests : List SessionRequest) (used : Used) (replies : List SessionReply) (between : List Entry) (more : List SessionRequest) (used_more : Used) (replies_more : List SessionReply) (journal : List Entry)
+    → Session store seen number requests used replies between → Session store between number more used_more replies_more journal → Session store seen number (requests ++ more) (then_used used used_more) (replies ++ replies_more) journal
+sessions_follow store seen number requests used replies between more used_more replies_more journal one two =
+    let all : List ServedRequest = one.served ++ two.served in
+    let within : length seen ≤ length between = subst (λ j. length seen ≤ length j) (sym one.begins) (let sum = length-append seen one.since in omega arith) in
+    let last : last_front (length seen) one.served ≤ length between = last_within store between number (length seen) one.served one.serves within in
+    let first : Serves store journal number (length seen) one.served = subst (λ j. Serves store j number (length seen) one.served) (sym two.begins) (serves_still store between number two.since (length seen) one.served one.serves) in
+    record {
+      since = one.since ++ two.since;
+      begins = two.begins ∙ ap (λ j. j ++ two.since) one.begins ∙ append_assoc seen one.since two.since;
+      served = all;
+      requests_are = map-append (λ (x : ServedRequest). x.request) one.served two.served ∙ ap (λ rs. rs ++ requests_of two.served) one.requests_are ∙ ap (λ rs. requests ++ rs) two.requests_are;
+      used_is = used_by-append one.served two.served ∙ ap (λ u. then_used u (used_by two.served)) one.used_is ∙ ap (then_used used) two.used_is;
+      replies_are = map-append (λ (x : ServedRequest). x.reply) one.served two.served ∙ ap (λ rs. rs ++ replies_of two.served) one.replies_are ∙ ap (λ rs. replies ++ rs) two.replies_are;
+      serves = serves_then store journal number (length seen) one.served two.served first (serves_from store journal number (length between) (last_front (length seen) one.served) two.served last two.serves);
+      own_are = filter-append (is_of number) one.since two.since ∙ ap (λ c. c ++ filter (is_of number) two.since) one.own_are ∙ ap (λ c. commits_of one.served ++ c) two.own_are ∙ sym (flat_map-append (λ (x : ServedRequest). x.commit) one.served two.served);
+    }
+
+-- what is told of the request at a place
+pub session_told_at : (store : KeyedStore) (seen : List Entry) (number : ℕ) (requests : List SessionRequest) (used : Used) (replies : List SessionReply) (journal : List Entry) (k : ℕ) (request : SessionRequest) (reply : SessionReply)
+    → Session store seen number requests used replies journal → slice_get requests k ≡ Some request → slice_get replies k ≡ Some reply → ToldAt store journal number request reply
+session_told_at store seen number requests used replies journal k request reply session at_k told_k =
+    told_at store journal number (length seen) session.served k request reply session.serves (ap (λ rs. slice_get rs k) session.requests_are ∙ at_k) (ap (λ rs. slice_get rs k) session.replies_are ∙ told_k)
+
+pub points_follow : (store : KeyedStore) (seen : List Entry) (number : ℕ) (requests : List SessionRequest) (used : Used) (replies : List SessionReply) (journal : List Entry) (i k : ℕ) (r s : SessionReply) → Session store seen number requests used replies journal → i ≤ k → slice_get replies i ≡ Some r → slice_get replies k ≡ Some s
+    → (length seen ≤ r.front) × (r.front ≤ s.front) × (s.front ≤ length journal)
+points_follow store seen number requests used replies journal i k r s session below at_i at_k =
+    let first : slice_get (replies_of session.served) i ≡ Some r = ap (λ rs. slice_get rs i) session.replies_are ∙ at_i in
+    let second : slice_get (replies_of session.served) k ≡ Some s = ap (λ rs. slice_get rs k) session.replies_are ∙ at_k in (
+      (fronts_behind store journal number (length seen) session.served i r session.serves first).0,
+      fronts_rise store journal number (length seen) session.served i k r s session.serves below first second,
+      (fronts_behind store journal number (length seen) session.served k s session.serves second).1,
+    )
+
+pub as_many : (store : KeyedStore) (seen : List Entry) (number : ℕ) (requests : List SessionRequest) (used : Used) (replies : List SessionReply) (journal : List Entry) → Session store seen number requests used replies journal → length requests ≡ length replies
+as_many store seen number requests used replies journal session =
+    sym (ap length session.requests_are) ∙ length-map session.served (λ (x : ServedRequest). x.request) ∙ sym (length-map session.served (λ (x : ServedRequest). x.reply)) ∙ ap length session.replies_are
 
 -- ---- whose commits
 
@@ -146,6 +191,6 @@ kept_passes number (e ∷ entries) entry has =
       | inr other ↦ rest (subst (λ b. Has (cond b (e ∷ filter (is_of number) entries) (filter (is_of number) entries)) entry) other has)
     ]
 
-pub commit_is_own : (store : KeyedStore) (seen : List Entry) (number : ℕ) (asked : List Asked) (used : Used) (replies : List SessionReply) (journal : List Entry) (entry : Entry) (session : Session store seen number asked used replies journal) → Contains session.commits entry → entry.caller.number ≡ number
-commit_is_own store seen number asked used replies journal entry session among =
+pub commit_is_own : (store : KeyedStore) (seen : List Entry) (number : ℕ) (requests : List SessionRequest) (used : Used) (replies : List SessionReply) (journal : List Entry) (entry : Entry) (session : Session store seen number requests used replies journal) → Contains (commits_of session.served) entry → entry.caller.number ≡ number
+commit_is_own store seen number requests used replies journal entry session among =
     kept_passes number session.since entry (Has-from_Contains (filter (is_of number) session.since) entry (subst (λ entries. Contains entries entry) (sym session.own_are) among))

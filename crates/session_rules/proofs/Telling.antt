@@ -1,7 +1,8 @@
 -- What a reply tells of what went wrong outside: a step alone never tells it.
-use Rattle.std.proofs.Common.{◌≡◌, ℕ, ◌+◌, Bool, true, false, cond, inl, inr, List, [], ◌∷◌, length, filter, Some, refl, sym, ◌∙◌, ap, subst, arith, map}
+use Rattle.std.proofs.Common.{◌≡◌, ℕ, zero, suc, ◌+◌, Bool, true, false, cond, inl, inr, List, [], ◌∷◌, length, filter, Some, refl, sym, ◌∙◌, ap, subst, arith, map}
 use Rattle.std.specs.Prelude.{slice_get, All}
 use Rattle.std.proofs.lemmas.Bool.{true≢false}
+use Rattle.std.proofs.lemmas.Option.{none-some, same_Some}
 use Rattle.definitions.specs.Spelling.{IsBytes}
 use Rattle.definitions.specs.Calls.{WrongAt}
 use Rattle.definitions.specs.Step.{Used}
@@ -9,15 +10,15 @@ use Rattle.record_rules.specs.Records.{Caller, Entry}
 use Rattle.step_rules.specs.Calls.{Call}
 use Rattle.step_rules.specs.Answers.{Refusal, too_long, unknown_id, unknown_name, full, id_taken, random_fault, disk_fault, no_memory, bad_request, Answer, began, stored, hits, value_is, keys, aliases, places, refused, Reply}
 use Rattle.step_rules.specs.Store.{KeyedStore}
-use Rattle.step_rules.specs.Step.{Draft, start_draft, record_draft, Unknown, end_unknown, delete_unknown, alias_unknown, draft_answer, Shows, shows_hits, shows_value, shows_no_value, shows_keys, shows_aliases, shows_places, Step, long_step, unknown_step, full_step, taken_step, append_step, read_step}
-use Rattle.step_rules.specs.Turn.{UsedSome, used_clock, used_bytes}
+use Rattle.step_rules.specs.Step.{Draft, start_draft, record_draft, Unknown, end_unknown, delete_unknown, key_unknown, alias_unknown, draft_answer, Shows, shows_hits, shows_value, shows_no_value, shows_keys, shows_aliases, shows_places, Step, long_step, unknown_step, full_step, taken_step, append_step, read_step}
+use Rattle.step_rules.specs.Turn.{UsedBeforeFailing, used_clock, used_bytes}
 use Rattle.request_rules.specs.Requests.{call_kinds}
 use Rattle.request_rules.proofs.Requests.{one_request_place, call_never_wrong}
-use Rattle.session_rules.specs.Sessions.{Asked, a_call, SessionAnswer, to_call, SessionReply, Told, told_step, told_disk_fault, told_random_fault, told_no_memory, told_no_memory_to_read, told_bad, told_no_memory_for_bad, told_page, told_page_refused, told_page_disk_fault, told_page_no_memory, told_read, told_unrouted, told_no_memory_for_unrouted, Serves, Session, tells_random_fault, told_random_faults, call_reply}
+use Rattle.session_rules.specs.Sessions.{Asked, a_call, SessionAnswer, to_call, SessionReply, Told, told_step, told_disk_fault, told_random_fault, told_no_memory, told_no_memory_at_once, told_bad, told_no_memory_for_bad, told_page, told_page_refused, told_page_disk_fault, told_page_no_memory, told_read, told_unrouted, told_no_memory_for_unrouted, SessionRequest, asked_in, ServedRequest, requests_of, replies_of, used_by, caller_of, Serves, Session, tells_random_fault, told_random_faults, call_reply}
 use Rattle.session_rules.specs.Reading.{Reads, ReadsEach}
 use Rattle.session_rules.specs.Passes.{tells_disk_fault}
 use Rattle.session_rules.specs.Laws.{TellsBad}
-use Rattle.session_rules.proofs.Sessions.{told_at}
+use Rattle.session_rules.proofs.Sessions.{session_told_at}
 use Rattle.session_rules.proofs.Reading.{read_at}
 
 -- ---- what a step never tells
@@ -40,8 +41,9 @@ draft_inner store journal (record_draft closes payload) id = refl
 
 unknown_inner : (store : KeyedStore) (journal : List Entry) (call : Call) (refusal : Refusal) → Unknown store journal call refusal → outer_refusal refusal ≡ false
 unfolding outer_refusal
-unknown_inner store journal call refusal (end_unknown _ _ _ _ _ is) = ap outer_refusal is
+unknown_inner store journal call refusal (end_unknown _ _ _ _ _ _ is) = ap outer_refusal is
 unknown_inner store journal call refusal (delete_unknown _ _ _ is) = ap outer_refusal is
+unknown_inner store journal call refusal (key_unknown _ _ _ _ is) = ap outer_refusal is
 unknown_inner store journal call refusal (alias_unknown _ _ _ is) = ap outer_refusal is
 
 shows_inner : (store : KeyedStore) (journal : List Entry) (call : Call) (answer : Answer) → Shows store journal call answer → outer answer ≡ false
@@ -57,7 +59,7 @@ module _ (store : KeyedStore) (journal : List Entry) (caller : Caller) (call : C
   step_inner : Step store journal caller call used after answer → outer answer ≡ false
   unfolding outer outer_refusal
   step_inner (long_step _ _ _ _ r) = ap outer r.answer_is
-  step_inner (unknown_step _ refusal _ unknown r) = ap outer r.answer_is ∙ unknown_inner store journal call refusal unknown
+  step_inner (unknown_step _ refusal _ _ unknown r) = ap outer r.answer_is ∙ unknown_inner store journal call refusal unknown
   step_inner (full_step _ _ _ _ _ _ _ r) = ap outer r.answer_is
   step_inner (taken_step _ _ _ _ _ _ _ r) = ap outer r.answer_is
   step_inner (append_step now drawn draft _ _ _ _ _ is) = ap outer is ∙ draft_inner store journal draft _
@@ -65,13 +67,13 @@ module _ (store : KeyedStore) (journal : List Entry) (caller : Caller) (call : C
 
   step_draws : Step store journal caller call used after answer → used.faults ≡ 0
   step_draws (long_step _ _ is _ _) = ap (λ (u : Used). u.faults) is
-  step_draws (unknown_step _ _ is _ _) = ap (λ (u : Used). u.faults) is
+  step_draws (unknown_step _ _ is _ _ _) = ap (λ (u : Used). u.faults) is
   step_draws (full_step _ _ _ is _ _ _ _) = ap (λ (u : Used). u.faults) is
   step_draws (taken_step _ _ _ is _ _ _ _) = ap (λ (u : Used). u.faults) is
   step_draws (append_step _ _ _ is _ _ _ _ _) = ap (λ (u : Used). u.faults) is
   step_draws (read_step is _ _) = ap (λ (u : Used). u.faults) is
 
-some_drew : (store : KeyedStore) (journal : List Entry) (call : Call) (used : Used) → UsedSome store journal call used → used.faults ≡ 0
+some_drew : (store : KeyedStore) (journal : List Entry) (call : Call) (used : Used) → UsedBeforeFailing store journal call used → used.faults ≡ 0
 some_drew store journal call used (used_clock _ is) = ap (λ (u : Used). u.faults) is
 some_drew store journal call used (used_bytes _ _ _ _ _ is) = ap (λ (u : Used). u.faults) is
 
@@ -117,7 +119,7 @@ module _ (store : KeyedStore) (journal : List Entry) (caller : Caller) (asked : 
   told_draws (told_disk_fault call _ _ some is _) = same_count 0 _ (some_drew store _ call used some) is refl
   told_draws (told_random_fault _ _ _ _ _ u is _) = same_count 1 _ (none_used u) is refl
   told_draws (told_no_memory call _ _ some is _) = same_count 0 _ (some_drew store _ call used some) is refl
-  told_draws (told_no_memory_to_read _ _ _ u is _) = same_count 0 _ (none_used u) is refl
+  told_draws (told_no_memory_at_once _ _ u is _) = same_count 0 _ (none_used u) is refl
   told_draws (told_bad _ _ u is _) = same_count 0 _ (none_used u) is refl
   told_draws (told_no_memory_for_bad _ _ u is _) = same_count 0 _ (none_used u) is refl
   told_draws (told_page _ _ _ _ _ _ u is) = same_count 0 _ (none_used u) is refl
@@ -135,16 +137,16 @@ counted reply replies = elim (tells_random_fault reply.answer) as (λ b. length 
   | false ↦ omega arith
 ]
 
-module _ (store : KeyedStore) (journal : List Entry) (number : ℕ) where
-  pub faults_drawn : (from call : ℕ) (asked : List Asked) (used : Used) (replies : List SessionReply) (commits : List Entry) → Serves store journal number from call asked used replies commits → told_random_faults replies ≡ used.faults
-  faults_drawn from call [] used [] commits serves = sym (ap (λ (u : Used). u.faults) serves.0)
-  faults_drawn from call (a ∷ more) used (r ∷ replies) commits serves =
-      let one = serves.0 in
-      let later = faults_drawn r.front (call + 1) more one.used_later replies one.commits_later serves.1 in
-      let here = told_draws store journal _ a r.front one.used_here r.answer one.commit one.told in
-      counted r replies ∙ ap (λ n. n + told_random_faults replies) (sym here) ∙ ap (λ n. one.used_here.faults + n) later ∙ sym (ap (λ (u : Used). u.faults) one.used_is)
-  faults_drawn from call [] used (r ∷ replies) commits serves = absurd serves
-  faults_drawn from call (a ∷ more) used [] commits serves = absurd serves
+faults_drawn : (store : KeyedStore) (journal : List Entry) (number from : ℕ) (served : List ServedRequest) → Serves store journal number from served → told_random_faults (replies_of served) ≡ (used_by served).faults
+faults_drawn store journal number from [] serves = refl
+faults_drawn store journal number from (one ∷ more) serves =
+    let later = faults_drawn store journal number one.reply.front more serves.1 in
+    let here = told_draws store journal _ one.request.asked one.reply.front one.used one.reply.answer one.commit serves.0.told in
+    counted one.reply (replies_of more) ∙ ap (λ n. n + told_random_faults (replies_of more)) (sym here) ∙ ap (λ n. one.used.faults + n) later
+
+pub session_draws : (store : KeyedStore) (seen : List Entry) (number : ℕ) (requests : List SessionRequest) (used : Used) (replies : List SessionReply) (journal : List Entry) → Session store seen number requests used replies journal → told_random_faults replies ≡ used.faults
+session_draws store seen number requests used replies journal session =
+    sym (ap told_random_faults session.replies_are) ∙ faults_drawn store journal number (length seen) session.served session.serves ∙ ap (λ (u : Used). u.faults) session.used_is
 
 -- ---- bad requests
 
@@ -175,7 +177,7 @@ module _ (payload : List ℕ) (bytes : IsBytes payload) (store : KeyedStore) (jo
   told_is_bad (told_disk_fault call is _ _ same _) reads = of_call call is reads (other_told _ same refl)
   told_is_bad (told_random_fault call _ _ is _ _ same _) reads = of_call call is reads (other_told _ same refl)
   told_is_bad (told_no_memory call is _ _ same _) reads = of_call call is reads (other_told _ same refl)
-  told_is_bad (told_no_memory_to_read call is _ _ same _) reads = of_call call is reads (other_told _ same refl)
+  told_is_bad (told_no_memory_at_once call is _ same _) reads = of_call call is reads (other_told _ same refl)
   told_is_bad (told_bad place is _ same _) reads =
       let wrong : WrongAt call_kinds payload place = subst (Reads payload) is reads in
       record {
@@ -191,12 +193,20 @@ module _ (payload : List ℕ) (bytes : IsBytes payload) (store : KeyedStore) (jo
   told_is_bad (told_unrouted _ is _ _ _) reads = absurd (subst (Reads payload) is reads)
   told_is_bad (told_no_memory_for_unrouted _ is _ _ _) reads = absurd (subst (Reads payload) is reads)
 
-pub bad_is_told : (store : KeyedStore) (seen : List Entry) (number : ℕ) (payloads : List (List ℕ)) (asked : List Asked) (used : Used) (replies : List SessionReply) (journal : List Entry) (k : ℕ) (payload : List ℕ) (reply : SessionReply)
-    → Session store seen number asked used replies journal → All IsBytes payloads → ReadsEach payloads asked → slice_get payloads k ≡ Some payload → slice_get replies k ≡ Some reply → TellsBad payload reply.answer
-bad_is_told store seen number payloads asked used replies journal k payload reply session bytes reads at_k told_k =
-    let here = read_at payloads asked k payload bytes reads at_k in
-    let told = told_at store journal number (length seen) 1 asked used replies session.commits k here.request reply session.serves here.at told_k in
-    told_is_bad payload here.bytes store journal _ here.request reply.front told.used reply.answer told.commit told.told here.reads
+-- the request at the place of what is asked
+request_at : (requests : List SessionRequest) (k : ℕ) (asked : Asked) → slice_get (asked_in requests) k ≡ Some asked → (request : SessionRequest) × (slice_get requests k ≡ Some request) × (request.asked ≡ asked)
+request_at [] k asked at = absurd (none-some asked at)
+request_at (request ∷ requests) zero asked at = (request, refl, same_Some request.asked asked at)
+request_at (request ∷ requests) (suc k) asked at = request_at requests k asked at
+
+pub bad_is_told : (store : KeyedStore) (seen : List Entry) (number : ℕ) (payloads : List (List ℕ)) (requests : List SessionRequest) (used : Used) (replies : List SessionReply) (journal : List Entry) (k : ℕ) (payload : List ℕ) (reply : SessionReply)
+    → Session store seen number requests used replies journal → All IsBytes payloads → ReadsEach payloads (asked_in requests) → slice_get payloads k ≡ Some payload → slice_get replies k ≡ Some reply → TellsBad payload reply.answer
+bad_is_told store seen number payloads requests used replies journal k payload reply session bytes reads at_k told_k =
+    let here = read_at payloads (asked_in requests) k payload bytes reads at_k in
+    let place = request_at requests k here.request here.at in
+    let request : SessionRequest = place.0 in
+    let told = session_told_at store seen number requests used replies journal k request reply session place.1 told_k in
+    told_is_bad payload here.bytes store journal (caller_of number request.call) request.asked reply.front told.used reply.answer told.commit told.told (subst (Reads payload) (sym place.2) here.reads)
 
 -- ---- what payloads are told
 
@@ -206,7 +216,7 @@ module _ (payload : List ℕ) (store : KeyedStore) (journal : List Entry) (calle
   told_as_call (told_disk_fault _ _ _ _ same _) reads = (refused disk_fault, same)
   told_as_call (told_random_fault _ _ _ _ _ _ same _) reads = (refused random_fault, same)
   told_as_call (told_no_memory _ _ _ _ same _) reads = (refused no_memory, same)
-  told_as_call (told_no_memory_to_read _ _ _ _ same _) reads = (refused no_memory, same)
+  told_as_call (told_no_memory_at_once _ _ _ same _) reads = (refused no_memory, same)
   told_as_call (told_bad place _ _ same _) reads = (refused (bad_request place), same)
   told_as_call (told_no_memory_for_bad _ _ _ same _) reads = (refused no_memory, same)
   told_as_call (told_page _ _ _ is _ _ _ _) reads = absurd (subst (Reads payload) is reads)
@@ -217,17 +227,19 @@ module _ (payload : List ℕ) (store : KeyedStore) (journal : List Entry) (calle
   told_as_call (told_unrouted _ is _ _ _) reads = absurd (subst (Reads payload) is reads)
   told_as_call (told_no_memory_for_unrouted _ is _ _ _) reads = absurd (subst (Reads payload) is reads)
 
-module _ (store : KeyedStore) (journal : List Entry) (number : ℕ) where
-  pub served_as_calls : (payloads : List (List ℕ)) (from call : ℕ) (asked : List Asked) (used : Used) (replies : List SessionReply) (commits : List Entry) → Serves store journal number from call asked used replies commits → ReadsEach payloads asked → (given : List Reply) × (replies ≡ map call_reply given)
-  served_as_calls [] from call [] used [] commits serves reads = ([], refl)
-  served_as_calls (payload ∷ payloads) from call (a ∷ more) used (r ∷ replies) commits serves reads =
-      let one = serves.0 in
-      let here = told_as_call payload store journal _ a r.front one.used_here r.answer one.commit one.told reads.0 in
-      let later = served_as_calls payloads r.front (call + 1) more one.used_later replies one.commits_later serves.1 reads.1 in
-      let reply : Reply = record { front = r.front; answer = here.0 } in
-      let same : r ≡ call_reply reply = ap (λ (x : SessionAnswer). record { front = r.front; answer = x }) here.1 in
-      (reply ∷ later.0, ap (λ (x : SessionReply). x ∷ replies) same ∙ ap (λ (xs : List SessionReply). call_reply reply ∷ xs) later.1)
-  served_as_calls [] from call (a ∷ more) used replies commits serves reads = absurd reads
-  served_as_calls (payload ∷ payloads) from call [] used replies commits serves reads = absurd reads
-  served_as_calls [] from call [] used (r ∷ replies) commits serves reads = absurd serves
-  served_as_calls (payload ∷ payloads) from call (a ∷ more) used [] commits serves reads = absurd serves
+served_as_calls : (store : KeyedStore) (journal : List Entry) (number : ℕ) (payloads : List (List ℕ)) (from : ℕ) (served : List ServedRequest) → Serves store journal number from served → ReadsEach payloads (asked_in (requests_of served)) → (given : List Reply) × (replies_of served ≡ map call_reply given)
+served_as_calls store journal number [] from [] serves reads = ([], refl)
+served_as_calls store journal number (payload ∷ payloads) from (one ∷ more) serves reads =
+    let here = told_as_call payload store journal _ one.request.asked one.reply.front one.used one.reply.answer one.commit serves.0.told reads.0 in
+    let later = served_as_calls store journal number payloads one.reply.front more serves.1 reads.1 in
+    let reply : Reply = record { front = one.reply.front; answer = here.0 } in
+    let same : one.reply ≡ call_reply reply = ap (λ (x : SessionAnswer). record { front = one.reply.front; answer = x }) here.1 in
+    (reply ∷ later.0, ap (λ (x : SessionReply). x ∷ replies_of more) same ∙ ap (λ (xs : List SessionReply). call_reply reply ∷ xs) later.1)
+served_as_calls store journal number [] from (one ∷ more) serves reads = absurd reads
+served_as_calls store journal number (payload ∷ payloads) from [] serves reads = absurd reads
+
+pub session_as_calls : (store : KeyedStore) (seen : List Entry) (number : ℕ) (payloads : List (List ℕ)) (requests : List SessionRequest) (used : Used) (replies : List SessionReply) (journal : List Entry) → Session store seen number requests used replies journal → ReadsEach payloads (asked_in requests)
+    → (given : List Reply) × (replies ≡ map call_reply given)
+session_as_calls store seen number payloads requests used replies journal session reads =
+    let given = served_as_calls store journal number payloads (length seen) session.served session.serves (subst (λ rs. ReadsEach payloads (asked_in rs)) (sym session.requests_are) reads) in
+    (given.0, sym session.replies_are ∙ given.1)

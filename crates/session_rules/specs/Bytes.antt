@@ -1,9 +1,9 @@
 -- Replies and their bytes: an array of 0, the front and the answer's item, or of the refusal's number, the front and its
 -- values. Each integer is in its shortest form. What a plain journal answers too has the same bytes.
-use Rattle.std.specs.Prelude.{ℕ, List, ◌∷◌, ◌++◌, length, take, drop, Option, Some, None}
+use Rattle.std.specs.Prelude.{ℕ, List, ◌++◌, length, Option, Some, None}
 use Rattle.std.specs.List.{flat_map}
 use Rattle.definitions.specs.Spelling.{written_text, written_array}
-use Rattle.definitions.specs.Ids.{id_text}
+use Rattle.definitions.specs.Ids.{hyphenated}
 use Rattle.definitions.specs.Replies.{written_number, ok_bytes, refusal_bytes, refusal_of_bytes, began_bytes, stored_bytes, hits_bytes, unknown_id_bytes, random_fault_bytes, id_taken_bytes, no_memory_bytes, bad_request_bytes}
 use Rattle.payload_rules.specs.Items.{written_nil}
 use Rattle.record_rules.specs.Journal.{ChainCount}
@@ -13,10 +13,6 @@ use Rattle.step_rules.specs.Answers.{Refusal, too_long, unknown_id, unknown_name
 -- an array of items that are written so
 abbrev pub written_list : {X : Type 0} → (X → List ℕ) → List X → List ℕ
 written_list item xs = written_array (length xs) ++ flat_map item xs
-
--- the 36 characters of an id in groups of 8, 4, 4, 4 and 12 digits, a hyphen between them
-abbrev pub hyphenated : ℕ → List ℕ
-hyphenated id = take 8 (id_text id) ++ 45 ∷ (take 4 (drop 8 (id_text id)) ++ 45 ∷ (take 4 (drop 12 (id_text id)) ++ 45 ∷ (take 4 (drop 16 (id_text id)) ++ 45 ∷ drop 20 (id_text id))))
 
 -- nil where the key has no value
 abbrev pub value_item : Option (List ℕ) → List ℕ

@@ -1,5 +1,6 @@
 -- Worked examples: replies in bytes, with the numbers written out, and two sessions in one journal.
-use Rattle.std.specs.Prelude.{◌≡◌, ℕ, ◌-◌, ◌^◌, pos, negsuc, List, [], ◌∷◌, ◌++◌, codes, map, Some, None, replicate, true, false, ◌⊎◌}
+use Rattle.std.specs.Prelude.{◌≡◌, ℕ, ◌-◌, ◌≤◌, ◌^◌, length, pos, negsuc, List, [], ◌∷◌, ◌++◌, codes, map, Some, None, replicate, true, false, ◌⊎◌}
+use Rattle.definitions.specs.Counts.{last_count}
 use Rattle.definitions.specs.Ids.{made_id}
 use Rattle.definitions.specs.Step.{Used, used_nothing, read_clock, read_and_drew, read_and_failed}
 use Rattle.definitions.specs.Examples.{first_time, ten_bytes, ls}
@@ -9,15 +10,19 @@ use Rattle.record_rules.specs.Examples.{kv_record}
 use Rattle.step_rules.specs.Calls.{status_call}
 use Rattle.step_rules.specs.Answers.{too_long, unknown_id, unknown_name, full, random_fault, id_taken, disk_fault, no_memory, bad_request, began, stored, hits, value_is, keys, aliases, places, refused}
 use Rattle.step_rules.specs.Store.{KeyedStore}
-use Rattle.step_rules.specs.PageTurns.{took, page_refused, page_faulted, page_no_memory}
+use Rattle.step_rules.specs.Sealing.{Sealing, keyed_store}
+use Rattle.step_rules.specs.Turn.{settled_entry}
+use Rattle.step_rules.specs.PageTurns.{PageAnswer, took, page_refused, page_faulted, page_no_memory}
 use Rattle.step_rules.specs.ReadTurns.{status_read, page_read, front_read, told_status, told_page, told_front, read_faulted, read_no_memory}
 use Rattle.step_rules.specs.Examples.{second_time, ls_call, two_records}
 use Rattle.session_rules.specs.Bytes.{reply_bytes}
-use Rattle.session_rules.specs.Sessions.{Asked, a_call, no_call, a_page, a_read, unrouted, SessionAnswer, to_call, to_page, to_read, to_unrouted, caller_of, Session, told_random_faults, is_stored}
+use Rattle.session_rules.specs.Within.{most_reply_bytes}
+use Rattle.session_rules.specs.Sessions.{Asked, a_call, no_call, a_page, a_read, unrouted, SessionAnswer, to_call, to_page, to_read, to_unrouted, caller_of, numbered_from, Session, told_random_faults, is_stored}
 use Rattle.session_rules.specs.Reading.{Reads, ReadsEach}
 use Rattle.session_rules.specs.Turns.{TurnAnswers}
-use Rattle.session_rules.specs.Passes.{TurnItem, Pass, mine, seen_more, KnowsItself, failures, PassMoves, split_off, joined, disk_faults, TurnsOf}
-use Rattle.session_rules.specs.Books.{Book, BookMoves, Finds, first_pass, turn_between, PassTurn}
+use Rattle.session_rules.specs.Passes.{TurnItem, Pass, mine, seen_more, KnowsItself, failures, PassMoves, split_off, SplitsOff, IsSpent, joined, Joins, disk_faults, TurnsOf}
+use Rattle.session_rules.specs.Books.{Book, MayGive, Finds, first_pass, turn_between, PassTakes, PassGives, PassTurn}
+use Rattle.session_rules.specs.Stores.{StoreState, store_of, StoreTurn, RunTurn, IsRun, last_left, run_replies, AreAlike}
 use Rattle.session_rules.specs.Http.{IsHttp, MayFault, response_code, at_fronts, HttpSession}
 
 pub record WorkedReplies : Type 0 where
@@ -33,7 +38,7 @@ pub record WorkedReplies : Type 0 where
   pub one_begun : reply_bytes (record { front = 1; answer = began 10 }) ≡ 0x93 ∷ 0x00 ∷ 0x01 ∷ 0xd9 ∷ 0x20 ∷ codes "0000000000000000000000000000000a"
   pub first_stored : reply_bytes (record { front = 2; answer = stored 0 }) ≡ 0x93 ∷ 0x00 ∷ 0x02 ∷ 0x00 ∷ []
   -- a command that began at 1,000, took 7 ns and ended with the status -1
-  pub one_hit : reply_bytes (record { front = 2; answer = hits (record { id = 10; timestamp = 1000; duration = pos 7; exit = negsuc 0; command = codes "ls"; cwd = codes "/"; session = codes "s1"; hostname = codes "h:u"; deleted_at = None } ∷ []) })
+  pub one_hit : reply_bytes (record { front = 2; answer = hits (record { id = 10; timestamp = 1000; duration = pos 7; exit = negsuc 0; command = codes "ls"; cwd = codes "/"; session = codes "s1"; hostname = codes "h:u"; deleted_at = None; author = None } ∷ []) })
       ≡ 0x93 ∷ 0x00 ∷ 0x02 ∷ 0x91 ∷ 0x98 ∷ 0xd9 ∷ 0x20 ∷ (codes "0000000000000000000000000000000a" ++ (0xcd ∷ 0x03 ∷ 0xe8 ∷ 0x07 ∷ 0xff ∷ 0xa2 ∷ 0x6c ∷ 0x73 ∷ 0xa1 ∷ 0x2f ∷ 0xa2 ∷ 0x73 ∷ 0x31 ∷ 0xa3 ∷ 0x68 ∷ 0x3a ∷ 0x75 ∷ []))
   pub a_value : reply_bytes (record { front = 1; answer = value_is (Some (codes "v")) }) ≡ 0x93 ∷ 0x00 ∷ 0x01 ∷ 0xa1 ∷ 0x76 ∷ []
   pub no_value : reply_bytes (record { front = 1; answer = value_is None }) ≡ 0x93 ∷ 0x00 ∷ 0x01 ∷ 0xc0 ∷ []
@@ -41,6 +46,8 @@ pub record WorkedReplies : Type 0 where
   pub one_alias : reply_bytes (record { front = 1; answer = aliases (record { name = codes "g"; value = codes "v" } ∷ []) }) ≡ 0x93 ∷ 0x00 ∷ 0x01 ∷ 0x91 ∷ 0x92 ∷ 0xa1 ∷ 0x67 ∷ 0xa1 ∷ 0x76 ∷ []
   -- the chain `kv` of host 1, of length 2
   pub one_place : reply_bytes (record { front = 2; answer = places (record { host = 1; tag = codes "kv"; count = 2 } ∷ []) }) ≡ 0x93 ∷ 0x00 ∷ 0x02 ∷ 0x91 ∷ 0x93 ∷ 0xd9 ∷ 0x24 ∷ (codes "00000000-0000-0000-0000-000000000001" ++ (0xa2 ∷ 0x6b ∷ 0x76 ∷ 0x02 ∷ []))
+  -- a value of 2^31 bytes would have no reply, which no record can hold
+  pub too_long_a_value : length (reply_bytes (record { front = 0; answer = value_is (Some (replicate (2 ^ 31) 0x61)) })) ≤ most_reply_bytes → ⊥
 
 -- ---- two sessions, of which the second was served first
 
@@ -59,18 +66,22 @@ abbrev pub both : List Entry
 both = started_by 2 high_id first_time ∷ started_by 1 (made_id second_time ten_bytes) second_time ∷ []
 
 pub record WorkedSessions : Type 0 where
-  pub first : (store : KeyedStore) → Session store [] 1 (a_call ls_call ∷ []) (read_and_drew second_time ten_bytes) (record { front = 2; answer = to_call (began (made_id second_time ten_bytes)) } ∷ []) both
-  pub second : (store : KeyedStore) → Session store [] 2 (a_call ls_call ∷ []) (read_and_drew first_time high_bytes) (record { front = 1; answer = to_call (began high_id) } ∷ []) both
+  pub first : (store : KeyedStore) → Session store [] 1 (numbered_from 1 (a_call ls_call ∷ [])) (read_and_drew second_time ten_bytes) (record { front = 2; answer = to_call (began (made_id second_time ten_bytes)) } ∷ []) both
+  pub second : (store : KeyedStore) → Session store [] 2 (numbered_from 1 (a_call ls_call ∷ [])) (read_and_drew first_time high_bytes) (record { front = 1; answer = to_call (began high_id) } ∷ []) both
   -- what is no call is told its place, and leaves the journal
-  pub no_call_told : (store : KeyedStore) → Session store [] 1 (no_call 14 ∷ []) used_nothing (record { front = 0; answer = to_call (refused (bad_request 14)) } ∷ []) []
+  pub no_call_told : (store : KeyedStore) → Session store [] 1 (numbered_from 1 (no_call 14 ∷ [])) used_nothing (record { front = 0; answer = to_call (refused (bad_request 14)) } ∷ []) []
   -- or that memory was wanting
-  pub no_call_unheld : (store : KeyedStore) → Session store [] 1 (no_call 14 ∷ []) used_nothing (record { front = 0; answer = to_call (refused no_memory) } ∷ []) []
-  -- a Start may fail without a commit: the disk before it drew or after, the draw, and memory
-  pub disk_failed : (store : KeyedStore) → Session store [] 1 (a_call ls_call ∷ []) (read_clock first_time) (record { front = 0; answer = to_call (refused disk_fault) } ∷ []) []
-  pub commit_failed : (store : KeyedStore) → Session store [] 1 (a_call ls_call ∷ []) (read_and_drew first_time ten_bytes) (record { front = 0; answer = to_call (refused disk_fault) } ∷ []) []
-  pub draw_failed : (store : KeyedStore) → Session store [] 1 (a_call ls_call ∷ []) (read_and_failed first_time) (record { front = 0; answer = to_call (refused random_fault) } ∷ []) []
-  pub unheld : (store : KeyedStore) → Session store [] 1 (a_call ls_call ∷ []) (read_and_drew first_time ten_bytes) (record { front = 0; answer = to_call (refused no_memory) } ∷ []) []
-  pub read_unheld : (store : KeyedStore) → Session store [] 1 (a_call status_call ∷ []) used_nothing (record { front = 0; answer = to_call (refused no_memory) } ∷ []) []
+  pub no_call_unheld : (store : KeyedStore) → Session store [] 1 (numbered_from 1 (no_call 14 ∷ [])) used_nothing (record { front = 0; answer = to_call (refused no_memory) } ∷ []) []
+  -- a Start may fail without a commit: the disk before it drew or after, the draw, and memory, also while it was being read, before the clock was
+  pub disk_failed : (store : KeyedStore) → Session store [] 1 (numbered_from 1 (a_call ls_call ∷ [])) (read_clock first_time) (record { front = 0; answer = to_call (refused disk_fault) } ∷ []) []
+  pub commit_failed : (store : KeyedStore) → Session store [] 1 (numbered_from 1 (a_call ls_call ∷ [])) (read_and_drew first_time ten_bytes) (record { front = 0; answer = to_call (refused disk_fault) } ∷ []) []
+  pub draw_failed : (store : KeyedStore) → Session store [] 1 (numbered_from 1 (a_call ls_call ∷ [])) (read_and_failed first_time) (record { front = 0; answer = to_call (refused random_fault) } ∷ []) []
+  pub unheld : (store : KeyedStore) → Session store [] 1 (numbered_from 1 (a_call ls_call ∷ [])) (read_and_drew first_time ten_bytes) (record { front = 0; answer = to_call (refused no_memory) } ∷ []) []
+  pub unheld_unread : (store : KeyedStore) → Session store [] 1 (numbered_from 1 (a_call ls_call ∷ [])) used_nothing (record { front = 0; answer = to_call (refused no_memory) } ∷ []) []
+  pub read_unheld : (store : KeyedStore) → Session store [] 1 (numbered_from 1 (a_call status_call ∷ [])) used_nothing (record { front = 0; answer = to_call (refused no_memory) } ∷ []) []
+  -- a worker's second connection numbers its calls from 1 again: both are one session of its pass
+  pub two_connections : (store : KeyedStore) → Session store [] 1 (numbered_from 1 (a_call ls_call ∷ []) ++ numbered_from 1 (a_call status_call ∷ [])) (read_and_drew second_time ten_bytes)
+      (record { front = 1; answer = to_call (began (made_id second_time ten_bytes)) } ∷ record { front = 1; answer = to_call (places []) } ∷ []) (started_by 1 (made_id second_time ten_bytes) second_time ∷ [])
   -- the turns of the first: it found one entry and left two
   pub first_turns : TurnsOf [] (record { front = 2; answer = to_call (began (made_id second_time ten_bytes)) } ∷ []) (record { found = 1; left = 2; failed = false } ∷ [])
   -- a fault of the disk is told after a turn that failed, and not after another one
@@ -96,13 +107,13 @@ pub record WorkedPages : Type 0 where
   pub which_are_stored : map is_stored (to_call (began 1) ∷ to_call (stored 0) ∷ to_page (took 0) ∷ to_call (refused disk_fault) ∷ to_call (places []) ∷ to_page page_faulted ∷ to_page (page_refused (PageGap 0 2)) ∷ to_read (told_front 1) ∷ to_unrouted 404 ∷ [])
       ≡ true ∷ true ∷ true ∷ false ∷ false ∷ false ∷ false ∷ false ∷ false ∷ []
   -- A Start and then five pages: one that is taken, the same again, one with a gap before it, and two that the disk and memory fail.
-  pub session : (store : KeyedStore) → Session store [] 1 (a_call ls_call ∷ a_page 5 two_records ∷ a_page 5 two_records ∷ a_page 5 (kv_record 3 1003 ∷ []) ∷ a_page 5 two_records ∷ a_page 5 two_records ∷ []) (read_and_drew second_time ten_bytes)
+  pub session : (store : KeyedStore) → Session store [] 1 (numbered_from 1 (a_call ls_call ∷ a_page 5 two_records ∷ a_page 5 two_records ∷ a_page 5 (kv_record 3 1003 ∷ []) ∷ a_page 5 two_records ∷ a_page 5 two_records ∷ [])) (read_and_drew second_time ten_bytes)
       (record { front = 1; answer = to_call (began (made_id second_time ten_bytes)) } ∷ record { front = 3; answer = to_page (took 2) } ∷ record { front = 3; answer = to_page (took 0) } ∷ record { front = 3; answer = to_page (page_refused (PageGap 0 2)) } ∷ record { front = 3; answer = to_page page_faulted } ∷ record { front = 3; answer = to_page page_no_memory } ∷ [])
       worker_journal
   -- Whatever is asked first and however it is answered, no entry of the second call is committed for it. And none is for the second one where it
   -- stood at the front of the first.
-  pub not_by_first : (store : KeyedStore) (asked : Asked) (used : Used) (answer : SessionAnswer) → Session store [] 1 (asked ∷ []) used (record { front = 1; answer = answer } ∷ []) (by_second_call ∷ []) → ⊥
-  pub not_before : (store : KeyedStore) (asked other : Asked) (used : Used) (answer other_answer : SessionAnswer) → Session store [] 1 (asked ∷ other ∷ []) used (record { front = 1; answer = answer } ∷ record { front = 1; answer = other_answer } ∷ []) (by_second_call ∷ []) → ⊥
+  pub not_by_first : (store : KeyedStore) (asked : Asked) (used : Used) (answer : SessionAnswer) → Session store [] 1 (numbered_from 1 (asked ∷ [])) used (record { front = 1; answer = answer } ∷ []) (by_second_call ∷ []) → ⊥
+  pub not_before : (store : KeyedStore) (asked other : Asked) (used : Used) (answer other_answer : SessionAnswer) → Session store [] 1 (numbered_from 1 (asked ∷ other ∷ [])) used (record { front = 1; answer = answer } ∷ record { front = 1; answer = other_answer } ∷ []) (by_second_call ∷ []) → ⊥
 
 -- ---- what is read of payloads
 
@@ -166,12 +177,26 @@ pub record WorkedPass : Type 0 where
   pub moved : PassMoves (pass_at (by_second ∷ [])) (record { number = 1; seen = by_second ∷ by_first ∷ []; known = 3; turns = a_turn ∷ another_turn ∷ []; faults = 5; fixed = 0 ∷ 1 ∷ [] })
   pub uncounted : PassMoves (pass_at []) (record (pass_at []) { turns = a_turn ∷ another_turn ∷ [] }) → ⊥
   pub unseen : PassMoves (pass_at (by_second ∷ [])) (pass_at []) → ⊥
+  -- where the count stands at its last value a turn may fail, and it stands there still
+  pub at_the_last : PassMoves (record (pass_at []) { faults = last_count }) (record (pass_at []) { turns = a_turn ∷ another_turn ∷ []; faults = last_count })
   -- pass 3 is split off, and joined back when it has seen one entry more and counted a fault more
   pub split_is : split_off (pass_at (by_second ∷ [])) 3 ≡ record { number = 3; seen = by_second ∷ []; known = 3; turns = []; faults = 4; fixed = 0 ∷ 1 ∷ [] }
+  -- so numbers 1 and 2 are given to no other, nor is one that an entry has, and the old pass knows of the new number
+  pub splits : SplitsOff (pass_at (by_second ∷ [])) (record (pass_at (by_second ∷ [])) { known = 3 }) (split_off (pass_at (by_second ∷ [])) 3)
+  pub number_again : (new : Pass) → SplitsOff (pass_at []) new (split_off (pass_at []) 2) → ⊥
+  pub number_on_an_entry : (new : Pass) → SplitsOff (record (pass_at (by_second ∷ [])) { known = 1 }) new (split_off (pass_at (by_second ∷ [])) 2) → ⊥
+  pub unknown_to_the_old : SplitsOff (pass_at []) (pass_at []) (split_off (pass_at []) 3) → ⊥
+  -- where number 65,535 was given there is none left
+  pub no_number : (new part : Pass) → SplitsOff (record (pass_at []) { known = 65535 }) new part → ⊥
+  pub spent : IsSpent (pass_at []) (record (pass_at []) { known = 65535 }) 65535
+  pub not_spent : (new : Pass) → IsSpent (pass_at []) new 65534 → ⊥
   pub joined_is : joined (pass_at (by_second ∷ [])) (record { number = 3; seen = by_second ∷ by_first ∷ []; known = 3; turns = another_turn ∷ []; faults = 5; fixed = 0 ∷ 1 ∷ [] })
       ≡ record { number = 1; seen = by_second ∷ by_first ∷ []; known = 3; turns = a_turn ∷ []; faults = 5; fixed = 0 ∷ 1 ∷ [] }
   pub other_joined : joined (record { number = 3; seen = by_second ∷ by_first ∷ []; known = 3; turns = another_turn ∷ []; faults = 5; fixed = 0 ∷ 1 ∷ [] }) (pass_at (by_second ∷ []))
       ≡ record { number = 3; seen = by_second ∷ by_first ∷ []; known = 3; turns = another_turn ∷ []; faults = 5; fixed = 0 ∷ 1 ∷ [] }
+  -- after the join it knows that four numbers were given
+  pub joins : Joins (pass_at (by_second ∷ [])) (record { number = 3; seen = by_second ∷ by_first ∷ []; known = 3; turns = another_turn ∷ []; faults = 5; fixed = 0 ∷ 1 ∷ [] })
+      (record { number = 1; seen = by_second ∷ by_first ∷ []; known = 4; turns = a_turn ∷ []; faults = 5; fixed = 0 ∷ 1 ∷ [] })
 
 -- ---- a book that two passes share
 
@@ -195,11 +220,20 @@ pub record WorkedBook : Type 0 where
   -- or it leaves a book without entries as it was
   pub leaves : PassTurn (pass_at []) (book_at [] 4) (book_at [] 4) (record { number = 1; seen = []; known = 2; turns = a_turn ∷ record { found = 0; left = 0; failed = false } ∷ []; faults = 4; fixed = 0 ∷ 1 ∷ [] })
   -- no turn takes an entry or a fault back, or changes the fixed part
-  pub no_entry_lost : BookMoves (book_at (by_second ∷ []) 4) (book_at [] 4) → ⊥
-  pub no_fault_lost : BookMoves (book_at [] 4) (book_at [] 3) → ⊥
-  pub no_other_part : BookMoves (book_at [] 4) (record (book_at [] 4) { fixed = [] }) → ⊥
-  -- a turn may leave all as it was
-  pub still : BookMoves (book_at (by_second ∷ []) 4) (book_at (by_second ∷ []) 4)
+  pub no_entry_lost : MayGive 1 (book_at (by_second ∷ []) 4) (book_at [] 4) → ⊥
+  pub no_fault_lost : MayGive 1 (book_at [] 4) (book_at [] 3) → ⊥
+  pub no_other_part : MayGive 1 (book_at [] 4) (record (book_at [] 4) { fixed = [] }) → ⊥
+  -- a turn may leave all as it was, or settled entries, but no entry of another pass
+  pub still : MayGive 1 (book_at (by_second ∷ []) 4) (book_at (by_second ∷ []) 4)
+  pub settles : MayGive 1 (book_at [] 4) (book_at (once_settled ∷ []) 4)
+  pub no_other_entry : MayGive 1 (book_at [] 4) (book_at (by_second ∷ []) 4) → ⊥
+  -- nor 2^64 entries
+  pub no_room : (found : Book) → MayGive 1 found (book_at (replicate (2 ^ 64) by_first) 4) → ⊥
+  -- what it has seen when it took the turn above, and what it has when it gave it
+  pub taken_so : PassTakes (pass_at []) (book_at (by_second ∷ []) 4) (pass_at (by_second ∷ []))
+  pub given_so : PassGives (pass_at (by_second ∷ [])) (book_at (by_second ∷ []) 4) (book_at (by_second ∷ by_first ∷ []) 5) (record { number = 1; seen = by_second ∷ by_first ∷ []; known = 2; turns = a_turn ∷ record { found = 1; left = 2; failed = true } ∷ []; faults = 5; fixed = 0 ∷ 1 ∷ [] })
+  -- a turn at the last count counts as failed
+  pub failed_at_the_last : turn_between (book_at [] last_count) (book_at [] last_count) ≡ record { found = 0; left = 0; failed = true }
   -- the turns of a Start and a page, which settle what pass 1 had left in doubt, and of a status of owner 5, which doesn't
   pub start_in_turn : (store : KeyedStore) → TurnAnswers store [] (by_first ∷ []) (caller_of 2 1) (a_call ls_call) (read_and_drew first_time high_bytes) (first_settled ∷ started_by 2 high_id first_time ∷ []) [] (to_call (began high_id))
   pub page_in_turn : (store : KeyedStore) → TurnAnswers store [] (by_first ∷ []) (caller_of 1 2) (a_page 5 two_records) used_nothing (first_settled ∷ worker_batch) [] (to_page (took 2))
@@ -212,9 +246,45 @@ pub record WorkedBook : Type 0 where
   pub bad_unheld_in_turn : (store : KeyedStore) → TurnAnswers store [] (by_first ∷ []) (caller_of 1 2) (no_call 14) used_nothing [] (by_first ∷ []) (to_call (refused no_memory))
   pub nowhere_in_turn : (store : KeyedStore) → TurnAnswers store [] (by_first ∷ []) (caller_of 1 2) (unrouted 404) used_nothing [] (by_first ∷ []) (to_unrouted 404)
   pub unheld_in_turn : (store : KeyedStore) → TurnAnswers store [] (by_first ∷ []) (caller_of 1 2) (unrouted 404) used_nothing [] (by_first ∷ []) (to_unrouted 503)
+  pub call_unread_in_turn : (store : KeyedStore) → TurnAnswers store [] (by_first ∷ []) (caller_of 1 2) (a_call ls_call) used_nothing [] (by_first ∷ []) (to_call (refused no_memory))
   -- and whatever it leaves, it neither settles a commit in doubt nor loses it
   pub bad_keeps_doubt : (store : KeyedStore) (after : List Entry) (answer : SessionAnswer) → TurnAnswers store [] (by_first ∷ []) (caller_of 1 2) (no_call 14) used_nothing after [] answer → ⊥
   pub nowhere_keeps_doubt : (store : KeyedStore) (after : List Entry) (answer : SessionAnswer) → TurnAnswers store [] (by_first ∷ []) (caller_of 1 2) (unrouted 404) used_nothing after [] answer → ⊥
+
+-- ---- a run of a store's turns
+
+abbrev pub state_at : (entries doubt : List Entry) (faults : ℕ) → StoreState
+state_at entries doubt faults = record { entries = entries; doubt = doubt; faults = faults }
+
+abbrev pub page_turn : (call front : ℕ) → PageAnswer → StoreState → RunTurn
+page_turn call front answer left = record { request = record { call = call; asked = a_page 5 two_records }; used = used_nothing; reply = record { front = front; answer = to_page answer }; left = left }
+
+abbrev pub status_turn : (call : ℕ) → StoreState → RunTurn
+status_turn call left = record { request = record { call = call; asked = a_read (status_read 5) }; used = used_nothing; reply = record { front = 0; answer = to_read (told_status []) }; left = left }
+
+-- a page whose commit fails and stays in doubt, a status, and the page again, which is settled first
+abbrev pub doubtful_run : List RunTurn
+doubtful_run = page_turn 2 0 page_faulted (state_at [] worker_batch 1) ∷ status_turn 3 (state_at [] worker_batch 1) ∷ page_turn 4 2 (took 0) (state_at (map settled_entry worker_batch) [] 1) ∷ []
+
+-- the same, but that the commit is lost
+abbrev pub lost_run : List RunTurn
+lost_run = page_turn 2 0 page_faulted (state_at [] [] 1) ∷ status_turn 3 (state_at [] [] 1) ∷ []
+
+pub record WorkedRuns : Type 0 where
+  -- the store of a fixed part has its host and its key
+  pub store_is : (sealing : Sealing) → store_of sealing (2 ∷ 7 ∷ 8 ∷ []) ≡ keyed_store sealing 2 (7 ∷ 8 ∷ [])
+  pub no_other_host : (sealing : Sealing) → (store_of sealing (2 ∷ 7 ∷ 8 ∷ [])).host ≡ 3 → ⊥
+  pub doubtful : (store : KeyedStore) → IsRun store 1 (state_at [] [] 0) doubtful_run
+  pub lost : (store : KeyedStore) → IsRun store 1 (state_at [] [] 0) lost_run
+  pub ends : last_left (state_at [] [] 0) doubtful_run ≡ state_at (map settled_entry worker_batch) [] 1
+  pub one_told : disk_faults (run_replies doubtful_run) ≡ 1
+  -- no reply of it says whether the commit was lost, so it isn't alike the other one
+  pub not_alike : AreAlike lost_run (page_turn 2 0 page_faulted (state_at [] worker_batch 1) ∷ status_turn 3 (state_at [] worker_batch 1) ∷ []) → ⊥
+  -- a turn begins with what the one before left in doubt
+  pub doubt_kept : (store : KeyedStore) → IsRun store 1 (state_at [] [] 0) (page_turn 2 0 page_faulted (state_at [] worker_batch 1) ∷ status_turn 3 (state_at [] [] 1) ∷ []) → ⊥
+  -- a fault is told where one was counted, or the count stands at its last value
+  pub uncounted : (store : KeyedStore) → StoreTurn store (state_at [] [] 4) (caller_of 1 2) (a_page 5 two_records) used_nothing (state_at [] [] 4) (to_page page_faulted) → ⊥
+  pub at_last_count : (store : KeyedStore) → StoreTurn store (state_at [] [] last_count) (caller_of 1 2) (a_page 5 two_records) used_nothing (state_at [] [] last_count) (to_page page_faulted)
 
 -- ---- a session over HTTP
 
@@ -226,14 +296,17 @@ abbrev pub http_asked : List Asked
 http_asked = a_page 5 two_records ∷ a_read (status_read 5) ∷ a_read (page_read 5 2 (codes "kv") 1 100) ∷ unrouted 404 ∷ unrouted 401 ∷ a_read (page_read 5 2 (codes "kv") 0 100) ∷ a_read (status_read 5) ∷ []
 
 abbrev pub http_answers : List SessionAnswer
-http_answers = to_page (took 2) ∷ to_read (told_status (record { host = 2; tag = codes "kv"; count = 2 } ∷ [])) ∷ to_read (told_page (kv_record 1 1001 ∷ [])) ∷ to_unrouted 404 ∷ to_unrouted 503 ∷ to_read read_faulted ∷ to_read read_no_memory ∷ []
+http_answers = to_page (took 2) ∷ to_read (told_status (record { host = 2; tag = codes "kv"; count = 2 } ∷ [])) ∷ to_read (told_page (kv_record 1 1001 ∷ [])) ∷ to_unrouted 404 ∷ to_unrouted 401 ∷ to_read read_faulted ∷ to_read read_no_memory ∷ []
 
 pub record WorkedHttp : Type 0 where
-  -- A page is posted, a status and a page are got, there is no such path, memory was wanting for a token, the disk failed, and memory again.
+  -- A page is posted, a status and a page are got, there is no such path, a token is no one's, the disk failed, and memory was wanting, which ends it.
   pub session : (store : KeyedStore) → HttpSession store [] 2 http_asked (3 ∷ 3 ∷ 3 ∷ 3 ∷ 3 ∷ 3 ∷ 3 ∷ []) http_answers posted
+  -- what asks the store nothing may be told want of memory, and then nothing more is told
+  pub unheld : (store : KeyedStore) → HttpSession store [] 2 (unrouted 401 ∷ []) (0 ∷ []) (to_unrouted 503 ∷ []) []
+  pub not_behind_503 : (store : KeyedStore) → HttpSession store [] 2 (unrouted 401 ∷ unrouted 404 ∷ []) (0 ∷ 0 ∷ []) (to_unrouted 503 ∷ to_unrouted 404 ∷ []) [] → ⊥
   -- it begins with no request, at any journal
   pub begins : (store : KeyedStore) → HttpSession store posted 2 [] [] [] posted
-  pub codes_are : map response_code http_answers ≡ Some 200 ∷ Some 200 ∷ Some 200 ∷ Some 404 ∷ Some 503 ∷ Some 500 ∷ Some 503 ∷ []
+  pub codes_are : map response_code http_answers ≡ Some 200 ∷ Some 200 ∷ Some 200 ∷ Some 404 ∷ Some 401 ∷ Some 500 ∷ Some 503 ∷ []
   -- the codes of a page that is refused, or fails
   pub refusals_are : map response_code (to_page (page_refused (PageTooLong 100 0)) ∷ to_page (page_refused (PageForked 0 7)) ∷ to_page (page_refused (PageGap 0 2)) ∷ to_page (page_refused (PageFull (record { what = 3; held = 4096 }))) ∷ to_page page_faulted ∷ to_page page_no_memory ∷ [])
       ≡ Some 413 ∷ Some 409 ∷ Some 409 ∷ Some 507 ∷ Some 500 ∷ Some 503 ∷ []

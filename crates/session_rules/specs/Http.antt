@@ -1,6 +1,6 @@
 -- What a session over HTTP is asked, and the code of each response (RFC 9110, 15, and RFC 4918, 11.5). How requests and responses are written is said by
 -- whoever reads and writes them.
-use Rattle.std.specs.Prelude.{◌≡◌, ℕ, List, [], ◌∷◌, length, All, false, Option, Some, None, ⊤}
+use Rattle.std.specs.Prelude.{◌≡◌, ℕ, ◌+◌, List, [], ◌∷◌, length, slice_get, All, false, Option, Some, None, ⊤}
 use Rattle.std.specs.List.{Contains}
 use Rattle.definitions.specs.Step.{used_nothing}
 use Rattle.record_rules.specs.Records.{Entry}
@@ -9,7 +9,7 @@ use Rattle.step_rules.specs.Calls.{is_read}
 use Rattle.step_rules.specs.Store.{KeyedStore}
 use Rattle.step_rules.specs.PageTurns.{PageAnswer, took, page_refused, page_faulted, page_no_memory}
 use Rattle.step_rules.specs.ReadTurns.{status_read, page_read, front_read, ReadAnswer, told_status, told_page, told_front, read_faulted, read_no_memory}
-use Rattle.session_rules.specs.Sessions.{Asked, a_call, no_call, a_page, a_read, unrouted, SessionAnswer, to_call, to_page, to_read, to_unrouted, SessionReply, no_memory_code, Session}
+use Rattle.session_rules.specs.Sessions.{Asked, a_call, no_call, a_page, a_read, unrouted, SessionAnswer, to_call, to_page, to_read, to_unrouted, SessionReply, no_memory_code, numbered_from, Session}
 
 -- ---- requests
 
@@ -79,8 +79,10 @@ at_fronts [] answers = []
 at_fronts (front ∷ fronts) [] = []
 at_fronts (front ∷ fronts) (answer ∷ answers) = record { front = front; answer = answer } ∷ at_fronts fronts answers
 
--- The session of a connection: it is asked requests of HTTP alone, and uses neither clock nor random bytes.
+-- The session of a connection: it is asked requests of HTTP alone, numbered from 1, and uses neither clock nor random bytes. Where memory was wanting
+-- the connection ends, so only its last answer tells of it.
 pub record HttpSession (store : KeyedStore) (seen : List Entry) (number : ℕ) (asked : List Asked) (fronts : List ℕ) (answers : List SessionAnswer) (journal : List Entry) : Type 0 where
   pub of_http : All IsHttp asked
   pub as_many : length fronts ≡ length answers
-  pub session : Session store seen number asked used_nothing (at_fronts fronts answers) journal
+  pub session : Session store seen number (numbered_from 1 asked) used_nothing (at_fronts fronts answers) journal
+  pub ends : (k : ℕ) (answer : SessionAnswer) → slice_get answers k ≡ Some answer → response_code answer ≡ Some no_memory_code → k + 1 ≡ length answers

@@ -7,3 +7,6 @@ pub mod Books
 pub mod Http
 pub mod Laws
 pub mod Examples
+pub mod Owners
+pub mod Stores
+pub mod Within

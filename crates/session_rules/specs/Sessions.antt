@@ -1,5 +1,6 @@
 -- What a session was asked, and what it answered, each at a point of one journal. Other sessions' entries may stand between its own.
-use Rattle.std.specs.Prelude.{◌≡◌, ℕ, ◌+◌, ◌≤◌, List, [], ◌∷◌, ◌++◌, length, take, filter, Bool, true, false, ◌==◌, Ok, Err}
+use Rattle.std.specs.Prelude.{◌≡◌, ℕ, ◌+◌, ◌≤◌, List, [], ◌∷◌, ◌++◌, length, map, take, filter, Bool, true, false, ◌==◌, Ok, Err, ⊤}
+use Rattle.std.specs.List.{flat_map}
 use Rattle.definitions.specs.Step.{Used, used_nothing, then_used, read_and_failed}
 use Rattle.record_rules.specs.Records.{SealedRecord, Caller, Entry}
 use Rattle.record_rules.specs.Growth.{PageRefusal, grow}
@@ -7,7 +8,7 @@ use Rattle.step_rules.specs.Calls.{Call, is_read}
 use Rattle.step_rules.specs.Answers.{Answer, began, stored, refused, random_fault, disk_fault, no_memory, bad_request, Reply}
 use Rattle.step_rules.specs.Store.{KeyedStore}
 use Rattle.step_rules.specs.Step.{Draft, Ready, Step}
-use Rattle.step_rules.specs.Turn.{UsedSome}
+use Rattle.step_rules.specs.Turn.{UsedBeforeFailing}
 use Rattle.step_rules.specs.PageTurns.{PageAnswer, took, page_refused, page_faulted, page_no_memory}
 use Rattle.step_rules.specs.ReadTurns.{StoreRead, ReadAnswer, ReadTurn}
 
@@ -51,12 +52,13 @@ pub data Told (store : KeyedStore) (journal : List Entry) (caller : Caller) (ask
   told_step : (call : Call) (before : List Entry) (given : Answer) → asked ≡ a_call call → take front journal ≡ before ++ commit → Step store before caller call used (take front journal) given → answer ≡ to_call given
       → Told store journal caller asked front used answer commit
   -- a call that writes
-  told_disk_fault : (call : Call) → asked ≡ a_call call → is_read call ≡ false → UsedSome store (take front journal) call used → answer ≡ to_call (refused disk_fault) → commit ≡ [] → Told store journal caller asked front used answer commit
+  told_disk_fault : (call : Call) → asked ≡ a_call call → is_read call ≡ false → UsedBeforeFailing store (take front journal) call used → answer ≡ to_call (refused disk_fault) → commit ≡ [] → Told store journal caller asked front used answer commit
   -- where the step would have drawn
   told_random_fault : (call : Call) (draft : Draft) (now : ℕ) → asked ≡ a_call call → Ready store (take front journal) call draft → used ≡ read_and_failed now → answer ≡ to_call (refused random_fault) → commit ≡ []
       → Told store journal caller asked front used answer commit
-  told_no_memory : (call : Call) → asked ≡ a_call call → is_read call ≡ false → UsedSome store (take front journal) call used → answer ≡ to_call (refused no_memory) → commit ≡ [] → Told store journal caller asked front used answer commit
-  told_no_memory_to_read : (call : Call) → asked ≡ a_call call → is_read call ≡ true → used ≡ used_nothing → answer ≡ to_call (refused no_memory) → commit ≡ [] → Told store journal caller asked front used answer commit
+  told_no_memory : (call : Call) → asked ≡ a_call call → is_read call ≡ false → UsedBeforeFailing store (take front journal) call used → answer ≡ to_call (refused no_memory) → commit ≡ [] → Told store journal caller asked front used answer commit
+  -- to a call that was only being read, or that reads
+  told_no_memory_at_once : (call : Call) → asked ≡ a_call call → used ≡ used_nothing → answer ≡ to_call (refused no_memory) → commit ≡ [] → Told store journal caller asked front used answer commit
   -- what is no call
   told_bad : (place : ℕ) → asked ≡ no_call place → used ≡ used_nothing → answer ≡ to_call (refused (bad_request place)) → commit ≡ [] → Told store journal caller asked front used answer commit
   told_no_memory_for_bad : (place : ℕ) → asked ≡ no_call place → used ≡ used_nothing → answer ≡ to_call (refused no_memory) → commit ≡ [] → Told store journal caller asked front used answer commit
@@ -73,27 +75,51 @@ pub data Told (store : KeyedStore) (journal : List Entry) (caller : Caller) (ask
   told_unrouted : (code : ℕ) → asked ≡ unrouted code → used ≡ used_nothing → answer ≡ to_unrouted code → commit ≡ [] → Told store journal caller asked front used answer commit
   told_no_memory_for_unrouted : (code : ℕ) → asked ≡ unrouted code → used ≡ used_nothing → answer ≡ to_unrouted no_memory_code → commit ≡ [] → Told store journal caller asked front used answer commit
 
--- one reply: what was used and committed for it, within what was used and committed from here on
-pub record One (store : KeyedStore) (journal : List Entry) (number from call : ℕ) (asked : Asked) (used : Used) (reply : SessionReply) (commits : List Entry) : Type 0 where
-  pub used_here : Used
-  pub used_later : Used
-  pub commit : List Entry
-  pub commits_later : List Entry
-  pub used_is : used ≡ then_used used_here used_later
-  pub commits_are : commits ≡ commit ++ commits_later
-  -- its commit stands behind the front of the reply before
-  pub behind : from + length commit ≤ reply.front
-  pub within : reply.front ≤ length journal
-  pub told : Told store journal (caller_of number call) asked reply.front used_here reply.answer commit
+-- a request with the number of its call
+pub record SessionRequest : Type 0 where
+  pub call : ℕ
+  pub asked : Asked
 
--- The replies to these requests, one after the other, each at a front between the one before, `from`, and the journal's end. The first
--- request has this call number. These are what is used and committed in all.
-abbrev pub Serves : KeyedStore → List Entry → (number from call : ℕ) → List Asked → Used → List SessionReply → List Entry → Type 0
-Serves store journal number from call [] used [] commits = (used ≡ used_nothing) × (commits ≡ [])
-Serves store journal number from call (asked ∷ more) used (reply ∷ replies) commits =
-    (one : One store journal number from call asked used reply commits) × Serves store journal number reply.front (call + 1) more one.used_later replies one.commits_later
-Serves store journal number from call [] used (reply ∷ replies) commits = ⊥
-Serves store journal number from call (asked ∷ more) used [] commits = ⊥
+-- requests whose calls are numbered one after the other, from this number
+abbrev pub numbered_from : ℕ → List Asked → List SessionRequest
+numbered_from call [] = []
+numbered_from call (asked ∷ more) = record { call = call; asked = asked } ∷ numbered_from (call + 1) more
+
+-- what is asked, without the numbers
+abbrev pub asked_in : List SessionRequest → List Asked
+asked_in requests = map (λ (request : SessionRequest). request.asked) requests
+
+-- a request that was served: what was used and committed for it, and the reply
+pub record ServedRequest : Type 0 where
+  pub request : SessionRequest
+  pub used : Used
+  pub commit : List Entry
+  pub reply : SessionReply
+
+-- what was asked, used, committed and replied in all, in order
+abbrev pub requests_of : List ServedRequest → List SessionRequest
+requests_of served = map (λ (one : ServedRequest). one.request) served
+
+abbrev pub replies_of : List ServedRequest → List SessionReply
+replies_of served = map (λ (one : ServedRequest). one.reply) served
+
+abbrev pub commits_of : List ServedRequest → List Entry
+commits_of served = flat_map (λ (one : ServedRequest). one.commit) served
+
+abbrev pub used_by : List ServedRequest → Used
+used_by [] = used_nothing
+used_by (one ∷ more) = then_used one.used (used_by more)
+
+-- A request is served behind `from` entries of the journal, with its commit behind these and before the front of the reply.
+pub record IsServed (store : KeyedStore) (journal : List Entry) (number from : ℕ) (one : ServedRequest) : Type 0 where
+  pub behind : from + length one.commit ≤ one.reply.front
+  pub within : one.reply.front ≤ length journal
+  pub told : Told store journal (caller_of number one.request.call) one.request.asked one.reply.front one.used one.reply.answer one.commit
+
+-- one after the other, each behind the front of the reply before
+abbrev pub Serves : KeyedStore → List Entry → (number from : ℕ) → List ServedRequest → Type 0
+Serves store journal number from [] = ⊤
+Serves store journal number from (one ∷ more) = IsServed store journal number from one × Serves store journal number one.reply.front more
 
 -- whether the entry came by a call of that pass
 abbrev pub is_of : ℕ → Entry → Bool
@@ -101,12 +127,15 @@ is_of number entry = entry.caller.number == number
 
 -- The session of this number: from all that was seen when it was opened, to the journal at its end. Of the entries since then those with its
 -- number are its commits, each once and in order.
-pub record Session (store : KeyedStore) (seen : List Entry) (number : ℕ) (asked : List Asked) (used : Used) (replies : List SessionReply) (journal : List Entry) : Type 0 where
+pub record Session (store : KeyedStore) (seen : List Entry) (number : ℕ) (requests : List SessionRequest) (used : Used) (replies : List SessionReply) (journal : List Entry) : Type 0 where
   pub since : List Entry
   pub begins : journal ≡ seen ++ since
-  pub commits : List Entry
-  pub serves : Serves store journal number (length seen) 1 asked used replies commits
-  pub own_are : filter (is_of number) since ≡ commits
+  pub served : List ServedRequest
+  pub requests_are : requests_of served ≡ requests
+  pub used_is : used_by served ≡ used
+  pub replies_are : replies_of served ≡ replies
+  pub serves : Serves store journal number (length seen) served
+  pub own_are : filter (is_of number) since ≡ commits_of served
 
 -- a fault of the random source, and how many replies tell of one
 abbrev pub tells_random_fault : SessionAnswer → Bool

@@ -9,8 +9,8 @@
 //! Each function has an empty body, and its contract is the law that its name says.
 #![tactic(auto)]
 
-ghost use Rattle.session_rules.specs.Laws.{EachIsAnswered, RepliesAtPoints, PointsFollow, OnlyStoredCommits, CommitsAreOwn, SessionsDontOverlap, OthersLeaveIt, TurnMakesLonger, SessionBegins, PayloadIsRead, PayloadsAreRead, FramesGetCallReplies, BadRequestIsTold, TurnsFollow, RandomFaultsAreDraws, PassGrowsByItsOwn, PassStays, MovesFollow, PassKnowsItself, DiskFaultsAreCounted, SplitStartsAnew, JoinKeepsBoth, FirstPassFinds, TurnMovesPass, PassFindsAgain, TurnAddsOwn, OthersFindIt, SplitFinds, JoinFinds, GoesBegins, PassGoesOn, JoinGoesOn, DiskFaultsHaveCauses, HttpUsesNothing, RequestsGetResponses};
-ghost use Rattle.session_rules.specs.Examples.{WorkedReplies, WorkedSessions, WorkedPages, WorkedReading, WorkedPass, WorkedBook, WorkedHttp};
+ghost use Rattle.session_rules.specs.Laws.{EachIsAnswered, RepliesAtPoints, PointsFollow, OnlyStoredCommits, CommitsAreOwn, SessionsDontOverlap, OthersLeaveIt, TurnMakesLonger, SessionsFollow, SessionBegins, PayloadIsRead, PayloadsAreRead, FramesGetCallReplies, BadRequestIsTold, TurnsFollow, RandomFaultsAreDraws, PassGrowsByItsOwn, PassStays, MovesFollow, PassKnowsItself, DiskFaultsAreCounted, SplitStartsAnew, NumbersRise, SpentForGood, JoinKeepsBoth, FirstPassFinds, TurnMovesPass, TakeAndGiveAreATurn, OthersFindIt, TurnAddsOwn, TurnMayBeGiven, SplitFinds, JoinFinds, PassHistoryBegins, PassGoesOn, JoinGoesOn, RunIsSession, RunCountsFaults, RunLeavesOne, RepliesAreShort, TurnAnswersOwner, OwnersAnsweredAlike, DiskFaultsHaveCauses, HttpUsesNothing, RequestsGetResponses};
+ghost use Rattle.session_rules.specs.Examples.{WorkedReplies, WorkedSessions, WorkedPages, WorkedReading, WorkedPass, WorkedBook, WorkedRuns, WorkedHttp};
 
 /// Each request of a session gets one reply.
 pub fn each_is_answered()
@@ -52,6 +52,12 @@ pub fn others_leave_it()
 /// the reply before: a call, a page, a read, or what asks the store nothing.
 pub fn turn_makes_longer()
     ensures { TurnMakesLonger }
+{}
+
+/// Two sessions of one number, the second from where the first ended, are one: so the sessions of a worker's
+/// connections are the session of its pass, each with its calls numbered from 1.
+pub fn sessions_follow()
+    ensures { SessionsFollow }
 {}
 
 /// A session begins at any journal.
@@ -109,14 +115,25 @@ pub fn a_pass_knows_itself()
     ensures { PassKnowsItself }
 {}
 
-/// Faults of the disk are told no more often than the pass counted them.
+/// For each fault of the disk that is told the pass counted one.
 pub fn disk_faults_are_counted()
     ensures { DiskFaultsAreCounted }
 {}
 
-/// A pass that is split off has all that the other had seen and counted, and no commits of its own.
+/// A pass that is split off has all that the other had seen and counted, no commits of its own, and
+/// another number.
 pub fn a_split_starts_anew()
     ensures { SplitStartsAnew }
+{}
+
+/// No two passes that are split off one pass have one number: the numbers rise.
+pub fn numbers_rise()
+    ensures { NumbersRise }
+{}
+
+/// Where no number was left, none is left later.
+pub fn spent_is_for_good()
+    ensures { SpentForGood }
 {}
 
 /// A join keeps the longer of what both had seen and the greater of what they had counted.
@@ -136,10 +153,15 @@ pub fn a_turn_moves_its_pass()
     ensures { TurnMovesPass }
 {}
 
-/// A pass that finds a book finds it later too, with all that it had seen and counted, whatever others
-/// put behind: at its next turn, and when it closes.
-pub fn a_pass_finds_its_book_again()
-    ensures { PassFindsAgain }
+/// What is taken and given is one turn.
+pub fn take_and_give_are_a_turn()
+    ensures { TakeAndGiveAreATurn }
+{}
+
+/// A pass that finds a book finds it later too, with all that it had seen and counted, whatever passes of
+/// other numbers leave: at its next turn, and when it closes.
+pub fn others_find_what_a_turn_left()
+    ensures { OthersFindIt }
 {}
 
 /// A turn settles what was in doubt, as entries of no pass, or nothing of it, and puts behind only
@@ -148,29 +170,28 @@ pub fn a_turn_adds_its_own()
     ensures { TurnAddsOwn }
 {}
 
-/// So after a turn of one pass all others that found the book find what it left.
-pub fn others_find_what_a_turn_left()
-    ensures { OthersFindIt }
+/// So its pass may leave what a turn makes of the entries.
+pub fn a_turn_may_be_given()
+    ensures { TurnMayBeGiven }
 {}
 
-/// A pass that is split off finds the book, under a number that no entry of it has.
+/// A pass that is split off finds the book, where no entry of it has the number.
 pub fn a_split_finds_the_book()
     ensures { SplitFinds }
 {}
 
-/// Of two passes that find one book each may be joined to the other: nothing that both had seen or
-/// counted is lost, and the joined pass finds the book.
+/// Where one of two passes that find a book is joined to the other, the joined pass finds it.
 pub fn a_join_finds_the_book()
     ensures { JoinFinds }
 {}
 
 /// What a pass was asked and answered begins with nothing, at any pass.
 pub fn a_pass_begins()
-    ensures { GoesBegins }
+    ensures { PassHistoryBegins }
 {}
 
-/// Where a pass takes a turn in which the store answers a request, the session of the pass and its turns
-/// get longer by that reply.
+/// Where a pass takes a turn in which the store of its fixed part answers a request, the session of the pass
+/// and its turns get longer by that reply.
 pub fn a_turn_of_a_pass_goes_on()
     ensures { PassGoesOn }
 {}
@@ -178,6 +199,39 @@ pub fn a_turn_of_a_pass_goes_on()
 /// They stay so where another pass of that book is joined to it.
 pub fn a_join_goes_on()
     ensures { JoinGoesOn }
+{}
+
+/// A run of a store's turns is a session, from the list that it found to the one that it leaves.
+pub fn a_run_is_a_session()
+    ensures { RunIsSession }
+{}
+
+/// For each fault of the disk that a run tells one was counted.
+pub fn a_run_counts_its_faults()
+    ensures { RunCountsFaults }
+{}
+
+/// A run leaves one list and one doubt, given what was asked, used and replied in each turn, and what stayed in
+/// doubt where a fault was told: a commit that failed is lost or in doubt, and no reply says which.
+pub fn a_run_leaves_one_store()
+    ensures { RunLeavesOne }
+{}
+
+/// The reply to a call that may be asked has fewer than 2^31 bytes, at a sound journal whose records open to no
+/// more texts than they weigh.
+pub fn replies_are_short()
+    ensures { RepliesAreShort }
+{}
+
+/// A turn of an owner's request in which nothing went wrong, at a journal with nothing in doubt, answers
+/// what the owner is told there.
+pub fn a_turn_answers_its_owner()
+    ensures { TurnAnswersOwner }
+{}
+
+/// So an owner is answered alike wherever the owner has the same, whatever others have.
+pub fn owners_are_answered_alike()
+    ensures { OwnersAnsweredAlike }
 {}
 
 /// A fault of the disk is told only to a call that writes, to a page that comes and to a page that is
@@ -226,6 +280,12 @@ pub fn worked_pass()
 /// counted.
 pub fn worked_book()
     ensures { WorkedBook }
+{}
+
+/// A run of a store's turns, worked out: a page whose commit stays in doubt, a status, and the page again, which
+/// is settled first; the same where the commit is lost; and a fault that wasn't counted.
+pub fn worked_runs()
+    ensures { WorkedRuns }
 {}
 
 /// A session over HTTP, worked out: a page that is posted, a status and a page that are got, a request

@@ -1,5 +1,5 @@
 -- The examples, computed.
-use Rattle.std.proofs.Common.{◌≡◌, ℕ, false, ◌||◌, cond, inl, inr, Bool, true, List, [], ◌∷◌, ◌++◌, length, Option, Some, None, Result, Ok, Err, refl, sym, ◌∙◌, ap, subst, arith}
+use Rattle.std.proofs.Common.{◌≡◌, ℕ, false, ◌||◌, cond, inl, inr, Bool, true, List, [], ◌∷◌, ◌++◌, length, Some, None, Result, Ok, Err, refl, sym, ◌∙◌, ap, subst, arith}
 use Rattle.std.specs.Prelude.{◌+◌, ◌<◌, ◌≤◌, ◌^◌, pos, nat_lt, codes, take, drop, replicate, bytes_eq, sum_by}
 use Rattle.std.specs.Option.{option_or}
 use Rattle.std.proofs.lemmas.Bool.{eq-eqb, true≢false}
@@ -9,35 +9,35 @@ use Rattle.std.proofs.lemmas.Slice.Eq.{bytes_eq-Decides}
 use Rattle.definitions.specs.Calls.{by_prefix}
 use Rattle.definitions.specs.Journal.{HistoryRecord}
 use Rattle.definitions.specs.Search.{hit_bytes, IsPage, FitsPage}
-use Rattle.definitions.proofs.Among.{HaveOwnIds-none, HaveOwnIds-more}
+use Rattle.definitions.proofs.Among.{HaveDistinctIds-none, HaveDistinctIds-more}
 use Rattle.std.proofs.lemmas.List.Sorted.{IsPermutation-refl}
 use Rattle.std.specs.List.{Contains, filter}
 use Rattle.std.specs.List.Sorted.{IsPermutation}
 use Rattle.definitions.specs.Step.{Used, used_nothing, read_clock, read_and_drew}
 use Rattle.definitions.specs.Examples.{first_time, ten_bytes, first_id, ls, ls_ended}
 use Rattle.record_rules.specs.Examples.{ls_entry}
-use Rattle.payload_rules.specs.Payloads.{Payload, HistoryCreate, HistoryDelete, KvSet, AliasSet, AliasDelete, tag_of, history_tag, payload_version}
+use Rattle.payload_rules.specs.Payloads.{Payload, HistoryCreate, HistoryDelete, KvSet, AliasSet, AliasDelete, version_0, version_text, tag_of, history_tag, payload_version}
 use Rattle.record_rules.specs.Limits.{most_value_bytes, most_name_bytes, most_page_weight, most_held_weight}
 use Rattle.record_rules.specs.Records.{SealedRecord, Caller, Entry, Local, record_weight, event_weight}
 use Rattle.record_rules.specs.Growth.{PageRefusal, PageGap}
-use Rattle.record_rules.specs.Journal.{ChainCount, chain, own_events, entries_passed, weight_passed, places_passed, fits, status}
+use Rattle.record_rules.specs.Journal.{ChainCount, chain, own_events, entries_passed, weight_passed, places_passed, first_limit_passed, status}
 use Rattle.std.specs.declared.cmp.Ordering.TheVariants.{Less}
-use Rattle.std.specs.Ordering.{ordering_reverse}
-use Rattle.std.specs.Cmp.{IsTotalOrder}
-use Rattle.std.proofs.lemmas.Cmp.{then_total, on_total, nat_cmp_total}
-use Rattle.view_rules.specs.Views.{ShowsHistory, Dead, by_deletion, by_creation, ShowsKv, NamesAlias, ShowsAlias, origin_cmp, time_cmp}
+use Rattle.view_rules.specs.Changes.{change_of, gives, changes_of}
+use Rattle.view_rules.specs.Views.{ShowsHistory, by_deletion, of_key, of_name, ShowsKv, ShowsAlias}
 use Rattle.view_rules.specs.Answers.{of_all, ScopedQuery, is_found, IsScopedAnswer, SearchAnswer}
-use Rattle.view_rules.proofs.Chains.{Has-from_Contains, Contains-from_Has}
-use Rattle.step_rules.specs.Calls.{Call, end_call, kv_list_call, alias_list_call, is_read, of_name, of_value, first_long, most_call_bytes}
-use Rattle.step_rules.specs.Answers.{Refusal, unknown_id, id_taken, disk_fault, no_memory, Answer, began, stored, hits, value_is, keys, aliases, places, refused, Reply}
+use Rattle.view_rules.proofs.Records.{Has-from_Contains, Contains-from_Has, holds, gives_once, computed_list}
+use Rattle.view_rules.proofs.Settings.{of_key_set, of_name_set}
+use Rattle.view_rules.proofs.Alone.{none_of_none, says_alone, said_alone, command_alone, created_alone}
+use Rattle.step_rules.specs.Calls.{Call, end_call, kv_list_call, alias_list_call, is_read, name_field, value_field, first_long, most_call_bytes}
+use Rattle.step_rules.specs.Answers.{Refusal, too_long, unknown_id, id_taken, disk_fault, no_memory, Answer, began, stored, hits, value_is, keys, aliases, places, refused, Reply}
 use Rattle.step_rules.specs.Store.{Head, KeyedStore, sealed_record, payload_text_bytes, SealsWell}
-use Rattle.step_rules.specs.Step.{Draft, start_draft, record_draft, Drafts, start_drafts, end_drafts, delete_drafts, kv_set_drafts, alias_set_drafts, alias_delete_drafts, Unknown, end_unknown, delete_unknown, alias_unknown, draft_passes, Ready, draws, Step, long_step, unknown_step, full_step, taken_step, append_step, read_step, Shows, shows_hits, shows_value, shows_no_value, shows_keys, shows_aliases, shows_places}
-use Rattle.step_rules.specs.Turn.{is_refusal, settled, UsedSome, used_clock, used_bytes, Turn, read_turn, short_read_turn, unsettled_turn, undrawn_turn, step_turn, uncommitted_turn, short_turn, short_settled_turn}
+use Rattle.step_rules.specs.Step.{Draft, start_draft, record_draft, Drafts, start_drafts, end_drafts, delete_drafts, kv_set_drafts, kv_delete_drafts, alias_set_drafts, alias_delete_drafts, Unknown, end_unknown, delete_unknown, key_unknown, alias_unknown, draft_passes, Ready, draws, Step, long_step, unknown_step, full_step, taken_step, append_step, read_step, Shows, shows_hits, shows_value, shows_no_value, shows_keys, shows_aliases, shows_places}
+use Rattle.step_rules.specs.Turn.{is_refusal, settled, UsedBeforeFailing, used_clock, used_bytes, Turn, read_turn, short_unread_turn, unsettled_turn, undrawn_turn, step_turn, uncommitted_turn, short_turn, short_settled_turn}
 use Rattle.step_rules.specs.PageTurns.{page_faulted, PageTurn, unsettled_page, taken_page, refused_page, uncommitted_page, short_page, short_settled_page}
 use Rattle.step_rules.specs.ReadTurns.{status_read, front_read, read_faulted, read_no_memory, ReadTurn, tells_status, tells_page, tells_front, faults_on_page, wants_memory}
 use Rattle.step_rules.specs.Examples.{end_id, end_head, end_record, end_settled, second_time, third_time, other_bytes, other_id, call_of, ls_call, other_entry, end_entry, OfExample, zeros_store, one_made, second_taken, WorkedStore, WorkedCommand, WorkedTexts, WorkedViews, WorkedDrafts, RunOf, WorkedRun, WorkedAsked, WorkedDoubt, WorkedPageTurns, WorkedReadTurns}
-use Rattle.step_rules.proofs.Following.{seal_bytes, tag_fits}
-use Rattle.step_rules.proofs.Outcomes.{shows_read}
+use Rattle.step_rules.proofs.Following.{seal_bytes, tag_fits, version_length}
+use Rattle.step_rules.proofs.Outcomes.{shows_read, Step-one}
 use Rattle.view_rules.specs.Answers.{Named, IsAbove, IsKey}
 use Rattle.view_rules.proofs.ListExamples.{whole_list}
 use Rattle.record_rules.proofs.Members.{Has}
@@ -51,19 +51,19 @@ ls_starts : (store : KeyedStore) → Step store [] (call_of 1) ls_call (read_and
 ls_starts store = append_step first_time ten_bytes (start_draft (codes "ls") (codes "/") (codes "s1") (codes "h:u")) refl refl (ls_ready store [] refl) refl refl refl
 
 end_room : (store : KeyedStore) → OfExample store → draft_passes store (ls_entry ∷ []) (record_draft (Some first_id) (HistoryCreate ls_ended)) ≡ None
-end_room store of_example = ap (λ w. fits (ls_entry ∷ []) 0 w (Some (record { host = store.host; tag = history_tag }))) of_example.weight
+end_room store of_example = ap (λ w. first_limit_passed (ls_entry ∷ []) 0 w (Some (record { host = store.host; tag = history_tag }))) of_example.weight
 
-ls_ends : (store : KeyedStore) (drawn : List ℕ) (caller : Caller) → OfExample store → length drawn ≡ 106 → Step store (ls_entry ∷ []) caller (end_call first_id (pos 1000) (pos 0)) (read_and_drew second_time drawn) (ls_entry ∷ record { caller = caller; event = Local (Some first_id) (end_record store drawn) } ∷ []) (stored 0)
+ls_ends : (store : KeyedStore) (drawn : List ℕ) (caller : Caller) → OfExample store → length drawn ≡ 106 → Step store (ls_entry ∷ []) caller (end_call first_id (pos 1000) (pos 0) None) (read_and_drew second_time drawn) (ls_entry ∷ record { caller = caller; event = Local (Some first_id) (end_record store drawn) } ∷ []) (stored 0)
 ls_ends store drawn caller of_example many =
     append_step second_time drawn (record_draft (Some first_id) (HistoryCreate ls_ended)) refl many
-    (record { short = refl; drafts = end_drafts first_id (pos 1000) (pos 0) ls refl refl refl; room = end_room store of_example }) refl refl refl
+    (record { short = refl; drafts = end_drafts first_id (pos 1000) (pos 0) None ls refl refl refl; room = end_room store of_example }) refl refl refl
 
 -- ---- a store of zeros
 
-zeros_weigh : (head : Head) (payload : Payload) (now : ℕ) (random : List ℕ) → head.tag ≡ tag_of payload → head.version ≡ payload_version → length random ≡ 96 → record_weight (sealed_record head now (zeros_store.seal head payload random)) ≡ zeros_store.weight_of payload
+zeros_weigh : (head : Head) (payload : Payload) (now : ℕ) (random : List ℕ) → head.tag ≡ tag_of payload → head.version ≡ version_text (payload_version payload) → length random ≡ 96 → record_weight (sealed_record head now (zeros_store.seal head payload random)) ≡ zeros_store.weight_of payload
 zeros_weigh head payload now random tag_is version_is many =
     let tag : length head.tag ≡ length (tag_of payload) = ap (λ (text : List ℕ). length text) tag_is in
-    let version : length head.version ≡ 2 = ap (λ (text : List ℕ). length text) version_is in
+    let version : length head.version ≡ 2 = ap (λ (text : List ℕ). length text) version_is ∙ version_length (payload_version payload) in
     let zeros : List ℕ = replicate (127 + payload_text_bytes payload) 0 in
     let many_zeros : length zeros ≡ 127 + payload_text_bytes payload = length-replicate (127 + payload_text_bytes payload) 0 in
     let sealed : length (random ++ zeros) ≡ length random + length zeros = length-append random zeros in
@@ -82,7 +82,7 @@ zeros_example = record { host = refl; weight = refl }
 
 -- what a record says in the open that ends the empty name
 abbrev empty_end : Head
-empty_end = record { id = 0; idx = 0; version = payload_version; tag = tag_of (AliasDelete []); host = 1 }
+empty_end = record { id = 0; idx = 0; version = version_text version_0; tag = tag_of (AliasDelete []); host = 1 }
 
 pub a_store : WorkedStore
 a_store = record {
@@ -101,86 +101,66 @@ commands = record {
   ends = λ store drawn of_example many. ls_ends store drawn (call_of 2) of_example many;
   end_taken = λ store drawn r of_example many same.
       taken_step second_time drawn (record_draft (Some first_id) (HistoryCreate ls_ended)) refl many
-      (record { short = refl; drafts = end_drafts first_id (pos 1000) (pos 0) ls refl refl refl; room = end_room store of_example })
+      (record { short = refl; drafts = end_drafts first_id (pos 1000) (pos 0) None ls refl refl refl; room = end_room store of_example })
       (ap (λ b. b || false) (eq-eqb r.id (end_id drawn) same)) (record { stays = refl; answer_is = refl });
   is_full = λ store journal passes. full_step first_time (start_draft (codes "ls") (codes "/") (codes "s1") (codes "h:u")) _ refl refl (start_drafts _ _ _ _ refl refl) passes (record { stays = refl; answer_is = refl });
-  other_runs = λ store. unknown_step second_time _ refl (end_unknown 7 (pos 1000) (pos 0) refl refl refl) (record { stays = refl; answer_is = refl });
+  other_runs = λ store. unknown_step second_time _ refl refl (end_unknown 7 (pos 1000) (pos 0) None refl refl refl) (record { stays = refl; answer_is = refl });
   starts_beside = λ store r same. append_step first_time ten_bytes (start_draft (codes "ls") (codes "/") (codes "s1") (codes "h:u")) refl refl (ls_ready store _ refl) refl refl refl;
-  ends_again = λ store drawn. unknown_step second_time _ refl (end_unknown first_id (pos 1000) (pos 0) refl refl refl) (record { stays = refl; answer_is = refl });
-  never_ran = λ store. unknown_step first_time _ refl (end_unknown _ (pos 0) (pos 0) refl refl refl) (record { stays = refl; answer_is = refl });
+  ends_again = λ store drawn. unknown_step second_time _ refl refl (end_unknown first_id (pos 1000) (pos 0) None refl refl refl) (record { stays = refl; answer_is = refl });
+  never_ran = λ store. unknown_step first_time _ refl refl (end_unknown _ (pos 0) (pos 0) None refl refl refl) (record { stays = refl; answer_is = refl });
 }
+
+long_author : (store : KeyedStore) (id : ℕ) (author : List ℕ) → length author ≡ 4097 → Step store [] (call_of 1) (end_call id (pos 0) (pos 0) (Some author)) (read_clock first_time) [] (refused (too_long 4 4097))
+long_author store id author at = long_step first_time (record { field = 4; length = 4097 }) refl (λ i. cond (nat_lt most_name_bytes (at i)) (Some (record { field = 4; length = at i })) None) (record { stays = refl; answer_is = refl })
 
 pub texts : WorkedTexts
 texts = record {
   command_at_most = λ command at i. cond (nat_lt most_value_bytes (at i)) (Some (record { field = 1; length = at i })) None;
   command_above = λ store command at. long_step first_time (record { field = 1; length = 262145 }) refl (λ i. cond (nat_lt most_value_bytes (at i)) (Some (record { field = 1; length = at i })) None) (record { stays = refl; answer_is = refl });
-  cwd_above = λ command cwd session hostname at above i. cond (nat_lt most_value_bytes (at i)) (Some (record { field = 1; length = at i })) (cond (nat_lt most_name_bytes (above i)) (Some (record { field = 2; length = above i })) (first_long 3 (of_name session ∷ of_name hostname ∷ [])));
-  session_above = λ session hostname above i. cond (nat_lt most_name_bytes (above i)) (Some (record { field = 3; length = above i })) (first_long 4 (of_name hostname ∷ []));
+  cwd_above = λ command cwd session hostname at above i. cond (nat_lt most_value_bytes (at i)) (Some (record { field = 1; length = at i })) (cond (nat_lt most_name_bytes (above i)) (Some (record { field = 2; length = above i })) (first_long (name_field 3 session ∷ name_field 4 hostname ∷ [])));
+  session_above = λ session hostname above i. cond (nat_lt most_name_bytes (above i)) (Some (record { field = 3; length = above i })) (first_long (name_field 4 hostname ∷ []));
   hostname_above = λ hostname above i. cond (nat_lt most_name_bytes (above i)) (Some (record { field = 4; length = above i })) None;
   hostname_at_most = λ hostname at i. cond (nat_lt most_name_bytes (at i)) (Some (record { field = 4; length = at i })) None;
-  namespace_above = λ namespace key value above i. cond (nat_lt most_name_bytes (above i)) (Some (record { field = 1; length = above i })) (first_long 2 (of_name key ∷ of_value value ∷ []));
-  key_above = λ key value above i. cond (nat_lt most_name_bytes (above i)) (Some (record { field = 2; length = above i })) (first_long 3 (of_value value ∷ []));
+  namespace_above = λ namespace key value above i. cond (nat_lt most_name_bytes (above i)) (Some (record { field = 1; length = above i })) (first_long (name_field 2 key ∷ value_field 3 value ∷ []));
+  key_above = λ key value above i. cond (nat_lt most_name_bytes (above i)) (Some (record { field = 2; length = above i })) (first_long (value_field 3 value ∷ []));
   kv_value_above = λ value above i. cond (nat_lt most_value_bytes (above i)) (Some (record { field = 3; length = above i })) None;
   kv_value_at_most = λ value at i. cond (nat_lt most_value_bytes (at i)) (Some (record { field = 3; length = at i })) None;
-  name_above = λ name value above i. cond (nat_lt most_name_bytes (above i)) (Some (record { field = 1; length = above i })) (first_long 2 (of_value value ∷ []));
+  name_above = λ name value above i. cond (nat_lt most_name_bytes (above i)) (Some (record { field = 1; length = above i })) (first_long (value_field 2 value ∷ []));
   alias_value_above = λ value above i. cond (nat_lt most_value_bytes (above i)) (Some (record { field = 2; length = above i })) None;
+  author_at_most = λ id author at i. cond (nat_lt most_name_bytes (at i)) (Some (record { field = 4; length = at i })) None;
+  author_above = long_author;
+  author_first = λ store id author after answer at step unknown.
+      let same = Step-one store [] (call_of 1) (end_call id (pos 0) (pos 0) (Some author)) (read_clock first_time) [] after (refused (too_long 4 4097)) answer refl (long_author store id author at) step in
+      let told : refused (too_long 4 4097) ≡ refused (unknown_id id) = same.1 ∙ unknown in
+      absurd cc;
   alias_value_at_most = λ value at i. cond (nat_lt most_value_bytes (at i)) (Some (record { field = 2; length = at i })) None;
 }
 
-none_in_nothing : (r : SealedRecord) → Contains [] r → ⊥
-none_in_nothing r among = let below = among.1 in omega arith
+abbrev n_k_v : Payload
+n_k_v = KvSet (codes "n") (codes "k") (codes "v")
 
--- the only one of a list is that one
-pub only_one : (r s : SealedRecord) → Contains (r ∷ []) s → r ≡ s
-only_one r s among = elim (Has-from_Contains (r ∷ []) s among) [
-  | inl here ↦ here
-  | inr later ↦ absurd later
-]
+abbrev g_v : Payload
+g_v = AliasSet (codes "g") (codes "v")
 
--- no record comes after itself
-time_total : IsTotalOrder time_cmp
-time_total = then_total (on_total (λ (r : SealedRecord). r.timestamp) nat_cmp_total) (then_total (on_total (λ (r : SealedRecord). r.host) nat_cmp_total) (on_total (λ (r : SealedRecord). r.idx) nat_cmp_total))
+module _ (store : KeyedStore) (r : SealedRecord) (opened : store.opens r ≡ Some n_k_v) where
+  shown : ShowsKv (changes_of store.opens (r ∷ [])) (codes "n") (codes "k") (codes "v")
+  shown = says_alone store.opens r n_k_v opened (of_key (codes "n") (codes "k")) (codes "v") refl
 
-pub not_after_itself : (r : SealedRecord) → time_cmp r r ≡ Less → ⊥
-not_after_itself r later = absurd (let turned : Less ≡ ordering_reverse Less = sym later ∙ time_total.antisymm r r ∙ ap ordering_reverse later in cc)
+  not_shown : ((value : List ℕ) × ShowsKv (changes_of store.opens (r ∷ [])) (codes "n") (codes "other") value) → ⊥
+  not_shown found = let none : None ≡ Some (Some found.0) = said_alone store.opens r n_k_v opened (of_key (codes "n") (codes "other")) found.1.0 (Some found.0) found.1.1 in cc
 
-abbrev key_of : Option Payload → List ℕ
-key_of None = []
-key_of (Some (KvSet namespace key value)) = key
-key_of (Some _) = []
-
-module _ (store : KeyedStore) (r : SealedRecord) (opened : store.opens r ≡ Some (KvSet (codes "n") (codes "k") (codes "v"))) where
-  shown : ShowsKv store.opens (r ∷ []) (codes "n") (codes "k") (codes "v")
-  shown = (
-    r,
-    record {
-      set = record { among = (0, omega arith, refl); opened = opened };
-      last = λ s other sets later. not_after_itself r (subst (λ t. time_cmp r t ≡ Less) (sym (only_one r s sets.among)) later);
-    },
-  )
-
-  not_shown : ((value : List ℕ) × ShowsKv store.opens (r ∷ []) (codes "n") (codes "other") value) → ⊥
-  not_shown found =
-      let here = only_one r found.1.0 found.1.1.set.among in
-      let same : Some (KvSet (codes "n") (codes "k") (codes "v")) ≡ Some (KvSet (codes "n") (codes "other") found.0) = sym opened ∙ ap store.opens here ∙ found.1.1.set.opened in
-      let keys : codes "k" ≡ codes "other" = ap key_of same in
-      cc
-
-module _ (store : KeyedStore) (r : SealedRecord) (opened : store.opens r ≡ Some (KvSet (codes "n") (codes "k") (codes "v"))) where
+module _ (store : KeyedStore) (r : SealedRecord) (opened : store.opens r ≡ Some n_k_v) where
   abbrev k_item : Named
   k_item = record { name = codes "k"; value = [] }
 
   abbrev IsN : Named → Type 0
-  IsN item = IsKey store.opens (r ∷ []) (codes "n") item
+  IsN item = IsKey (changes_of store.opens (r ∷ [])) (codes "n") item
 
   k_is_key : IsN k_item
   k_is_key = (refl, (codes "v", shown store r opened))
 
   name_is : (item : Named) → IsN item → codes "k" ≡ item.name
-  name_is item is =
-      let here = only_one r is.1.1.0 is.1.1.1.set.among in
-      let same : Some (KvSet (codes "n") (codes "k") (codes "v")) ≡ Some (KvSet (codes "n") item.name is.1.0) = sym opened ∙ ap store.opens here ∙ is.1.1.1.set.opened in
-      ap key_of same
+  name_is item is = (of_key_set (codes "n") item.name (codes "n") (codes "k") (codes "v") (Some is.1.0) (said_alone store.opens r n_k_v opened (of_key (codes "n") item.name) is.1.1.0 (Some is.1.0) is.1.1.1)).1
 
   item_is : (item : Named) → IsN item → k_item ≡ item
   item_is item is = ap (λ name. record { name = name; value = [] }) (name_is item is) ∙ ap (λ value. record { name = item.name; value = value }) (sym is.0)
@@ -199,19 +179,12 @@ module _ (store : KeyedStore) (r : SealedRecord) (opened : store.opens r ≡ Som
   none_listed : Shows store (record { caller = call_of 1; event = Local None r } ∷ []) (kv_list_call (codes "n") (codes "k") 5) (keys [])
   none_listed = shows_keys (codes "n") (codes "k") 5 [] refl (whole_list 5 IsN (codes "k") [] (λ item. (λ c. absurd (let below = c.1 in omega arith), λ l. absurd (none_above item l.0 l.1))) tt (omega arith, inl (omega arith))) refl
 
-abbrev name_of : Option Payload → List ℕ
-name_of (Some (AliasSet name value)) = name
-name_of _ = []
-
-module _ (store : KeyedStore) (r : SealedRecord) (opened : store.opens r ≡ Some (AliasSet (codes "g") (codes "v"))) where
+module _ (store : KeyedStore) (r : SealedRecord) (opened : store.opens r ≡ Some g_v) where
   abbrev IsG : Named → Type 0
-  IsG item = ShowsAlias store.opens (r ∷ []) item.name item.value
+  IsG item = ShowsAlias (changes_of store.opens (r ∷ [])) item.name item.value
 
   g_is : (item : Named) → IsG item → codes "g" ≡ item.name
-  g_is item is =
-      let here = only_one r is.0 is.1.set.among in
-      let same : Some (AliasSet (codes "g") (codes "v")) ≡ Some (AliasSet item.name item.value) = sym opened ∙ ap store.opens here ∙ is.1.set.opened in
-      ap name_of same
+  g_is item is = (of_name_set item.name (codes "g") (codes "v") (Some item.value) (said_alone store.opens r g_v opened (of_name item.name) is.0 (Some item.value) is.1)).0
 
   none_above_g : (item : Named) → IsG item → IsAbove (codes "g") item.name → ⊥
   none_above_g item is (inl e) = absurd cc
@@ -222,7 +195,8 @@ module _ (store : KeyedStore) (r : SealedRecord) (opened : store.opens r ≡ Som
 
 pub views : WorkedViews
 views = record {
-  no_alias = λ store. unknown_step first_time _ refl (alias_unknown (codes "zz") refl (λ named. none_in_nothing named.1.0 named.1.1.set.among) refl) (record { stays = refl; answer_is = refl });
+  no_pair = λ store. unknown_step first_time _ refl refl (key_unknown (codes "n") (codes "k") refl (λ shown. none_of_none shown.1.0 shown.1.1.here.among) refl) (record { stays = refl; answer_is = refl });
+  no_alias = λ store. unknown_step first_time _ refl refl (alias_unknown (codes "zz") refl (λ named. none_of_none named.1.0 named.1.1.here.among) refl) (record { stays = refl; answer_is = refl });
   a_key = k_listed;
   no_key_above = none_listed;
   no_alias_above = no_alias_listed;
@@ -230,100 +204,66 @@ views = record {
   no_value = λ store r opened. read_turn (value_is None) refl (shows_no_value (codes "n") (codes "other") refl (not_shown store r opened) refl) (record { journal_is = refl; doubt_is = refl; reply_is = refl });
 }
 
-abbrev created_id : Option Payload → ℕ
-created_id (Some (HistoryCreate h)) = h.id
-created_id _ = 0
-
-abbrev deleted_time : Option Payload → Option ℕ
-deleted_time (Some (HistoryCreate h)) = h.deleted_at
-deleted_time _ = None
-
-abbrev first_code : Option Payload → ℕ
-first_code (Some (AliasSet (code ∷ name) value)) = code
-first_code _ = 0
-
--- no record comes before itself
-origin_total : IsTotalOrder origin_cmp
-origin_total = then_total (on_total (λ (r : SealedRecord). r.host) nat_cmp_total) (on_total (λ (r : SealedRecord). r.idx) nat_cmp_total)
-
-not_before_itself : (r : SealedRecord) → origin_cmp r r ≡ Less → ⊥
-not_before_itself r before = absurd (let turned : Less ≡ ordering_reverse Less = sym before ∙ origin_total.antisymm r r ∙ ap ordering_reverse before in cc)
-
 module _ (store : KeyedStore) (r : SealedRecord) (opened : store.opens r ≡ Some (HistoryCreate ls_ended)) where
-  opens_so : (s : SealedRecord) → Contains (r ∷ []) s → store.opens s ≡ Some (HistoryCreate ls_ended)
-  opens_so s among = sym (ap store.opens (only_one r s among)) ∙ opened
+  pub command_shown : ShowsHistory (changes_of store.opens (r ∷ [])) ls_ended
+  command_shown = command_alone store.opens r (HistoryCreate ls_ended) opened ls_ended refl refl
 
-  not_dead : (id : ℕ) → Dead store.opens (r ∷ []) id → ⊥
-  not_dead id (by_deletion s among deletes) = absurd (let same : Some (HistoryCreate ls_ended) ≡ Some (HistoryDelete id) = sym (opens_so s among) ∙ deletes in cc)
-  not_dead id (by_creation s h time made is deleted) =
-      let same : Some (HistoryCreate ls_ended) ≡ Some (HistoryCreate h) = sym (opens_so s made.among) ∙ made.opened in
-      none-some time (ap deleted_time same ∙ deleted)
+  only_command : (h : HistoryRecord) → ShowsHistory (changes_of store.opens (r ∷ [])) h → ls_ended ≡ h
+  only_command h shown = same_command (created_alone store.opens r (HistoryCreate ls_ended) opened h shown)
+    where
+      same_command : HistoryCreate ls_ended ≡ HistoryCreate h → ls_ended ≡ h
+      same_command e = cc
 
-  pub command_shown : ShowsHistory store.opens (r ∷ []) ls_ended
-  command_shown = (
-    r,
-    record {
-      created = record { among = (0, omega arith, refl); opened = opened };
-      alive = not_dead first_id;
-      first = λ s other made is before. not_before_itself r (subst (λ t. origin_cmp t r ≡ Less) (sym (only_one r s made.among)) before);
-    },
-  )
-
-  no_other : ((h : HistoryRecord) × ShowsHistory store.opens (r ∷ []) h × (h.id ≡ 7)) → ⊥
+  no_other : ((h : HistoryRecord) × ShowsHistory (changes_of store.opens (r ∷ [])) h × (h.id ≡ 7)) → ⊥
   no_other found =
-      let same : Some (HistoryCreate ls_ended) ≡ Some (HistoryCreate found.0) = sym (opens_so found.1.0 found.1.1.created.among) ∙ found.1.1.created.opened in
-      let id_is : first_id ≡ 7 = ap created_id same ∙ found.2 in
+      let id_is : first_id ≡ 7 = ap (λ (h : HistoryRecord). h.id) (only_command found.0 found.1) ∙ found.2 in
       omega (arith, id_is)
 
-module _ (store : KeyedStore) (r : SealedRecord) (opened : store.opens r ≡ Some (AliasSet (codes "g") (codes "v"))) where
-  only_named : (s : SealedRecord) → NamesAlias store.opens (r ∷ []) (codes "g") s → r ≡ s
-  only_named s (inl sets) = only_one r s sets.1.among
-  only_named s (inr ends) = only_one r s ends.among
+module _ (store : KeyedStore) (r : SealedRecord) (opened : store.opens r ≡ Some g_v) where
+  pub alias_shown : ShowsAlias (changes_of store.opens (r ∷ [])) (codes "g") (codes "v")
+  alias_shown = says_alone store.opens r g_v opened (of_name (codes "g")) (codes "v") refl
 
-  alias_shown : ShowsAlias store.opens (r ∷ []) (codes "g") (codes "v")
-  alias_shown = (
-    r,
-    record {
-      set = record { among = (0, omega arith, refl); opened = opened };
-      last = λ s names later. not_after_itself r (subst (λ t. time_cmp r t ≡ Less) (sym (only_named s names)) later);
-    },
-  )
+  no_other_name : ((value : List ℕ) × ShowsAlias (changes_of store.opens (r ∷ [])) (codes "v") value) → ⊥
+  no_other_name found = let none : None ≡ Some (Some found.0) = said_alone store.opens r g_v opened (of_name (codes "v")) found.1.0 (Some found.0) found.1.1 in cc
 
-  no_other_name : ((value : List ℕ) × ShowsAlias store.opens (r ∷ []) (codes "v") value) → ⊥
-  no_other_name found =
-      let here = only_one r found.1.0 found.1.1.set.among in
-      let same : Some (AliasSet (codes "g") (codes "v")) ≡ Some (AliasSet (codes "v") found.0) = sym opened ∙ ap store.opens here ∙ found.1.1.set.opened in
-      let first : ◌≡◌ {A = ℕ} 103 118 = ap first_code same in
-      omega arith
+-- a command that the second of two records deletes
+module _ (store : KeyedStore) (r s : SealedRecord) (opened : store.opens s ≡ Some (HistoryDelete first_id)) where
+  deleted : (h : HistoryRecord) → ShowsHistory (changes_of store.opens (r ∷ s ∷ [])) h → h.id ≡ first_id → ⊥
+  deleted h shown same =
+      let changes = changes_of store.opens (r ∷ s ∷ []) in
+      let has = holds (gives store.opens) (gives_once store.opens) (r ∷ s ∷ []) changes s (HistoryDelete first_id) (computed_list store.opens (r ∷ s ∷ [])) (inr (inl refl)) opened in
+      shown.1.alive (by_deletion (change_of s (HistoryDelete first_id)) (Contains-from_Has changes (change_of s (HistoryDelete first_id)) has) (ap HistoryDelete (sym same)))
 
 one_reading : (now : ℕ) → read_clock now ≡ used_nothing → ⊥
 one_reading now e = let same : ◌≡◌ {A = ℕ} 1 0 = ap (λ (u : Used). length u.readings) e in omega arith
 
 -- an End of what doesn't run is told just that
-no_end_drafts : (store : KeyedStore) (draft : Draft) → Drafts store [] (end_call 7 (pos 0) (pos 0)) draft → ⊥
+no_end_drafts : (store : KeyedStore) (draft : Draft) → Drafts store [] (end_call 7 (pos 0) (pos 0) None) draft → ⊥
 no_end_drafts store draft (start_drafts _ _ _ _ e _) = absurd cc
-no_end_drafts store draft (end_drafts _ _ _ s _ runs _) = none-some s runs
+no_end_drafts store draft (end_drafts _ _ _ _ s _ runs _) = none-some s runs
 no_end_drafts store draft (delete_drafts _ e _ _) = absurd cc
 no_end_drafts store draft (kv_set_drafts _ _ _ e _) = absurd cc
+no_end_drafts store draft (kv_delete_drafts _ _ e _ _) = absurd cc
 no_end_drafts store draft (alias_set_drafts _ _ e _) = absurd cc
 no_end_drafts store draft (alias_delete_drafts _ e _ _) = absurd cc
 
-unknown_told : (store : KeyedStore) (refusal : Refusal) → Unknown store [] (end_call 7 (pos 0) (pos 0)) refusal → (id : ℕ) × (refusal ≡ unknown_id id)
-unknown_told store refusal (end_unknown id _ _ _ _ is) = (id, is)
+unknown_told : (store : KeyedStore) (refusal : Refusal) → Unknown store [] (end_call 7 (pos 0) (pos 0) None) refusal → (id : ℕ) × (refusal ≡ unknown_id id)
+unknown_told store refusal (end_unknown id _ _ _ _ _ is) = (id, is)
 unknown_told store refusal (delete_unknown _ e _ _) = absurd cc
+unknown_told store refusal (key_unknown _ _ e _ _) = absurd cc
 unknown_told store refusal (alias_unknown _ e _ _) = absurd cc
 
-end_told : (store : KeyedStore) (after : List Entry) (answer : Answer) → Step store [] (call_of 1) (end_call 7 (pos 0) (pos 0)) (read_clock first_time) after answer → (id : ℕ) × (answer ≡ refused (unknown_id id))
+end_told : (store : KeyedStore) (after : List Entry) (answer : Answer) → Step store [] (call_of 1) (end_call 7 (pos 0) (pos 0) None) (read_clock first_time) after answer → (id : ℕ) × (answer ≡ refused (unknown_id id))
 end_told store after answer (long_step _ long _ is _) = absurd (none-some long is)
-end_told store after answer (unknown_step _ refusal _ unknown refuses) = let told = unknown_told store refusal unknown in (told.0, refuses.answer_is ∙ ap refused told.1)
+end_told store after answer (unknown_step _ refusal _ _ unknown refuses) = let told = unknown_told store refusal unknown in (told.0, refuses.answer_is ∙ ap refused told.1)
 end_told store after answer (full_step _ draft _ _ _ drafts _ _) = absurd (no_end_drafts store draft drafts)
 end_told store after answer (taken_step _ _ draft _ _ ready _ _) = absurd (no_end_drafts store draft ready.drafts)
 end_told store after answer (append_step _ _ draft _ _ ready _ _ _) = absurd (no_end_drafts store draft ready.drafts)
 end_told store after answer (read_step e _ _) = absurd (one_reading first_time e)
 
-no_fault_told : (store : KeyedStore) (after doubt_after : List Entry) (front : ℕ) → Turn store [] [] (call_of 1) (end_call 7 (pos 0) (pos 0)) (read_clock first_time) after doubt_after (record { front = front; answer = refused disk_fault }) → ⊥
+no_fault_told : (store : KeyedStore) (after doubt_after : List Entry) (front : ℕ) → Turn store [] [] (call_of 1) (end_call 7 (pos 0) (pos 0) None) (read_clock first_time) after doubt_after (record { front = front; answer = refused disk_fault }) → ⊥
 no_fault_told store after doubt_after front (read_turn _ e _ _) = one_reading first_time e
-no_fault_told store after doubt_after front (short_read_turn e _ _) = absurd cc
+no_fault_told store after doubt_after front (short_unread_turn e _) = one_reading first_time e
 no_fault_told store after doubt_after front (unsettled_turn _ _ some _ _) = some refl
 no_fault_told store after doubt_after front (step_turn made answer _ step leaves) =
     let told = end_told store made answer step in
@@ -339,11 +279,11 @@ some_drawn (start_draft _ _ _ _) nine = omega arith
 some_drawn (record_draft _ _) nine = omega arith
 
 module _ (store : KeyedStore) (journal : List Entry) (call : Call) (used : Used) where
-  clock_was_read : UsedSome store journal call used → used ≡ used_nothing → ⊥
+  clock_was_read : UsedBeforeFailing store journal call used → used ≡ used_nothing → ⊥
   clock_was_read (used_clock now e) none = one_reading now (sym e ∙ none)
   clock_was_read (used_bytes now _ drawn _ _ e) none = let same : ◌≡◌ {A = ℕ} 1 0 = ap (λ (u : Used). length u.readings) (sym e ∙ none) in omega arith
 
-  not_nine_drawn : UsedSome store journal call used → length used.drawn ≡ 9 → ⊥
+  not_nine_drawn : UsedBeforeFailing store journal call used → length used.drawn ≡ 9 → ⊥
   not_nine_drawn (used_clock now e) nine = absurd (let none : length used.drawn ≡ 0 = ap (λ (u : Used). length u.drawn) e in omega arith)
   not_nine_drawn (used_bytes now draft drawn _ many e) nine = some_drawn draft (sym many ∙ sym (ap (λ (u : Used). length u.drawn) e) ∙ nine)
 
@@ -356,7 +296,7 @@ one_left entry same = let one : ◌≡◌ {A = ℕ} 1 0 = ap length same in omeg
 
 not_drawn_in_doubt : (store : KeyedStore) (drawn : List ℕ) → Turn store (ls_entry ∷ []) (end_entry store drawn ∷ []) (call_of 3) ls_call (read_and_drew first_time ten_bytes) (ls_entry ∷ []) (end_entry store drawn ∷ []) (record { front = 1; answer = refused no_memory }) → ⊥
 not_drawn_in_doubt store drawn (read_turn _ e _ _) = ten_drawn e refl
-not_drawn_in_doubt store drawn (short_read_turn _ e _) = ten_drawn e refl
+not_drawn_in_doubt store drawn (short_unread_turn e _) = ten_drawn e refl
 not_drawn_in_doubt store drawn (unsettled_turn _ _ _ e _) = ten_drawn e refl
 not_drawn_in_doubt store drawn (step_turn _ _ _ _ leaves) = one_left _ leaves.doubt_is
 not_drawn_in_doubt store drawn (undrawn_turn _ _ _ _ leaves) = one_left _ leaves.doubt_is
@@ -364,7 +304,7 @@ not_drawn_in_doubt store drawn (uncommitted_turn _ _ _ _ _ _ _ leaves) = absurd 
 not_drawn_in_doubt store drawn (short_turn _ _ e _) = ten_drawn e refl
 not_drawn_in_doubt store drawn (short_settled_turn _ _ leaves) = one_left _ leaves.doubt_is
 
-not_drawn_unready : (store : KeyedStore) → UsedSome store [] (end_call 7 (pos 0) (pos 0)) (read_and_drew first_time ten_bytes) → ⊥
+not_drawn_unready : (store : KeyedStore) → UsedBeforeFailing store [] (end_call 7 (pos 0) (pos 0) None) (read_and_drew first_time ten_bytes) → ⊥
 not_drawn_unready store (used_clock _ e) = ten_drawn e refl
 not_drawn_unready store (used_bytes _ draft _ ready _ _) = no_end_drafts store draft ready.drafts
 
@@ -405,24 +345,24 @@ nothing_read same one = let none : ◌≡◌ {A = ℕ} 0 1 = ap (λ (u : Used). 
 
 write_reads : (store : KeyedStore) (journal : List Entry) (caller : Caller) (call : Call) (after : List Entry) (answer : Answer) → is_read call ≡ false → Step store journal caller call used_nothing after answer → ⊥
 write_reads store journal caller call after answer writes (long_step _ _ e _ _) = nothing_read e refl
-write_reads store journal caller call after answer writes (unknown_step _ _ e _ _) = nothing_read e refl
+write_reads store journal caller call after answer writes (unknown_step _ _ e _ _ _) = nothing_read e refl
 write_reads store journal caller call after answer writes (full_step _ _ _ e _ _ _ _) = nothing_read e refl
 write_reads store journal caller call after answer writes (taken_step _ _ _ e _ _ _ _) = nothing_read e refl
 write_reads store journal caller call after answer writes (append_step _ _ _ e _ _ _ _ _) = nothing_read e refl
 write_reads store journal caller call after answer writes (read_step _ shows _) = true≢false (sym (shows_read store journal caller call answer shows) ∙ writes)
 
-write_unread : (store : KeyedStore) (after doubt_after : List Entry) (reply : Reply) → Turn store [] [] (call_of 1) ls_call used_nothing after doubt_after reply → ⊥
-write_unread store after doubt_after reply (read_turn answer _ shows _) = true≢false (sym (shows_read store [] (call_of 1) ls_call answer shows))
-write_unread store after doubt_after reply (short_read_turn reads _ _) = true≢false (sym reads)
-write_unread store after doubt_after reply (unsettled_turn _ _ some _ _) = some refl
-write_unread store after doubt_after reply (step_turn made answer writes step _) = write_reads store [] (call_of 1) ls_call made answer writes step
-write_unread store after doubt_after reply (undrawn_turn _ _ _ e _) = nothing_read e refl
-write_unread store after doubt_after reply (uncommitted_turn batch _ answer writes _ step _ _) = write_reads store [] (call_of 1) ls_call batch answer writes step
-write_unread store after doubt_after reply (short_turn _ _ e _) = nothing_read e refl
-write_unread store after doubt_after reply (short_settled_turn _ some _) = clock_was_read store [] ls_call used_nothing some refl
+write_unread : (store : KeyedStore) (after doubt_after : List Entry) (reply : Reply) → Turn store [] [] (call_of 1) ls_call used_nothing after doubt_after reply → (after ≡ []) × (doubt_after ≡ []) × (reply.answer ≡ refused no_memory)
+write_unread store after doubt_after reply (read_turn answer _ shows _) = absurd (true≢false (sym (shows_read store [] (call_of 1) ls_call answer shows)))
+write_unread store after doubt_after reply (short_unread_turn _ leaves) = (leaves.journal_is, leaves.doubt_is, ap (λ (r : Reply). r.answer) leaves.reply_is)
+write_unread store after doubt_after reply (unsettled_turn _ _ some _ _) = absurd (some refl)
+write_unread store after doubt_after reply (step_turn made answer writes step _) = absurd (write_reads store [] (call_of 1) ls_call made answer writes step)
+write_unread store after doubt_after reply (undrawn_turn _ _ _ e _) = absurd (nothing_read e refl)
+write_unread store after doubt_after reply (uncommitted_turn batch _ answer writes _ step _ _) = absurd (write_reads store [] (call_of 1) ls_call batch answer writes step)
+write_unread store after doubt_after reply (short_turn _ _ e _) = absurd (nothing_read e refl)
+write_unread store after doubt_after reply (short_settled_turn _ some _) = absurd (clock_was_read store [] ls_call used_nothing some refl)
 
-end_ready_behind : Ready zeros_store (settled [] (ls_entry ∷ [])) (end_call first_id (pos 1000) (pos 0)) (record_draft (Some first_id) (HistoryCreate ls_ended))
-end_ready_behind = record { short = refl; drafts = end_drafts first_id (pos 1000) (pos 0) ls refl refl refl; room = refl }
+end_ready_behind : Ready zeros_store (settled [] (ls_entry ∷ [])) (end_call first_id (pos 1000) (pos 0) None) (record_draft (Some first_id) (HistoryCreate ls_ended))
+end_ready_behind = record { short = refl; drafts = end_drafts first_id (pos 1000) (pos 0) None ls refl refl refl; room = refl }
 
 pub doubt : WorkedDoubt
 doubt = record {
@@ -440,10 +380,11 @@ doubt = record {
   stays_in_doubt = λ store drawn. unsettled_turn second_time refl (λ e. cc) refl (record { journal_is = refl; doubt_is = refl; reply_is = refl });
   undrawn_behind = undrawn_turn second_time (record_draft (Some first_id) (HistoryCreate ls_ended)) end_ready_behind refl (record { journal_is = refl; doubt_is = refl; reply_is = refl });
   short_behind = short_settled_turn refl (used_bytes second_time (record_draft (Some first_id) (HistoryCreate ls_ended)) (replicate 106 0) end_ready_behind refl refl) (record { journal_is = refl; doubt_is = refl; reply_is = refl });
-  short_unread = write_unread;
+  short_unread = λ store. short_unread_turn refl (record { journal_is = refl; doubt_is = refl; reply_is = refl });
+  only_short_unread = write_unread;
   not_drawn = λ store. undrawn_turn first_time _ (ls_ready store [] refl) refl (record { journal_is = refl; doubt_is = refl; reply_is = refl });
   again = λ store drawn of_example many. step_turn (ls_entry ∷ record { caller = call_of 3; event = Local (Some first_id) (end_record store drawn) } ∷ []) (stored 0) refl (ls_ends store drawn (call_of 3) of_example many) (record { journal_is = refl; doubt_is = refl; reply_is = refl });
-  short_read = λ store drawn. short_read_turn refl refl (record { journal_is = refl; doubt_is = refl; reply_is = refl });
+  short_read = λ store drawn. short_unread_turn refl (record { journal_is = refl; doubt_is = refl; reply_is = refl });
   short = λ store drawn. short_turn second_time refl refl (record { journal_is = refl; doubt_is = refl; reply_is = refl });
   short_settled = λ store drawn well of_example many. short_settled_turn refl
       (used_bytes first_time (start_draft (codes "ls") (codes "/") (codes "s1") (codes "h:u")) ten_bytes (ls_ready store (ls_entry ∷ end_settled store drawn ∷ []) (room_for_more store drawn well of_example many)) refl refl) (record { journal_is = refl; doubt_is = refl; reply_is = refl });
@@ -457,14 +398,15 @@ doubt = record {
 pub drafts : WorkedDrafts
 drafts = record {
   sets_key = λ store. kv_set_drafts _ _ _ refl refl;
+  deletes_key = λ store r opened. kv_delete_drafts (codes "n") (codes "k") refl (codes "v", shown store r opened) refl;
   sets_alias = λ store. alias_set_drafts _ _ refl refl;
   deletes = λ store r opened. delete_drafts first_id refl (ls_ended, command_shown store r opened, refl) refl;
-  no_command = λ store r opened. unknown_step first_time _ refl (delete_unknown 7 refl (no_other store r opened) refl) (record { stays = refl; answer_is = refl });
-  runs_still = λ store. unknown_step second_time _ refl (delete_unknown first_id refl (λ shown. none_in_nothing shown.1.0 shown.1.1.created.among) refl) (record { stays = refl; answer_is = refl });
-  deleted_before = λ store r s opened. unknown_step first_time _ refl (delete_unknown first_id refl (λ shown. shown.1.1.alive (by_deletion s (1, omega arith, refl) (opened ∙ ap (λ id. Some (HistoryDelete id)) (sym shown.2)))) refl) (record { stays = refl; answer_is = refl });
+  no_command = λ store r opened. unknown_step first_time _ refl refl (delete_unknown 7 refl (no_other store r opened) refl) (record { stays = refl; answer_is = refl });
+  runs_still = λ store. unknown_step second_time _ refl refl (delete_unknown first_id refl (λ shown. none_of_none shown.1.0 shown.1.1.created.among) refl) (record { stays = refl; answer_is = refl });
+  deleted_before = λ store r s opened. unknown_step first_time _ refl refl (delete_unknown first_id refl (λ shown. deleted store r s opened shown.0 shown.1 shown.2) refl) (record { stays = refl; answer_is = refl });
   deletes_alias = λ store r opened. alias_delete_drafts (codes "g") refl (codes "v", alias_shown store r opened) refl;
-  no_name = λ store r opened. unknown_step first_time _ refl (alias_unknown (codes "v") refl (no_other_name store r opened) refl) (record { stays = refl; answer_is = refl });
-  next_idx = λ store id of_example. ap (λ host. record { id = id; idx = length (chain (one_made ∷ []) 0 host history_tag); version = payload_version; tag = history_tag; host = host }) of_example.host;
+  no_name = λ store r opened. unknown_step first_time _ refl refl (alias_unknown (codes "v") refl (no_other_name store r opened) refl) (record { stays = refl; answer_is = refl });
+  next_idx = λ store id of_example. ap (λ host. record { id = id; idx = length (chain (one_made ∷ []) 0 host history_tag); version = version_text version_0; tag = history_tag; host = host }) of_example.host;
   next_told = λ store id of_example. ap (λ host. stored (length (chain (one_made ∷ []) 0 host history_tag))) of_example.host;
   takes_place = λ store of_example. ap (λ host. Some (record { host = host; tag = history_tag })) of_example.host;
   takes_none = λ store. refl;
@@ -490,31 +432,24 @@ none_are_shown text entries none = record {
   cut = whole_page 100 no_hits (omega arith, inl (omega arith));
 }
 
-none_ended_found : (store : KeyedStore) → SearchAnswer store.opens [] (search_for (codes "ls") 0) no_hits
+none_ended_found : (store : KeyedStore) → SearchAnswer [] (search_for (codes "ls") 0) no_hits
 none_ended_found store = record {
   entries = no_hits;
-  listed = record { own = HaveOwnIds-none HistoryRecord (λ h. h.id); same = λ h. (λ among. absurd (let below = among.1 in omega arith), λ shown. absurd (none_in_nothing shown.0 shown.1.created.among)) };
+  listed = record { own = HaveDistinctIds-none HistoryRecord (λ h. h.id); same = λ h. (λ among. absurd (let below = among.1 in omega arith), λ shown. absurd (none_of_none shown.0 shown.1.created.among)) };
   answer = none_are_shown (codes "ls") no_hits refl;
 }
 
-abbrev created_or : HistoryRecord → Option Payload → HistoryRecord
-created_or other (Some (HistoryCreate h)) = h
-created_or other _ = other
-
 module _ (store : KeyedStore) (r : SealedRecord) (opened : store.opens r ≡ Some (HistoryCreate ls_ended)) where
-  only_command : (h : HistoryRecord) → ShowsHistory store.opens (r ∷ []) h → ls_ended ≡ h
-  only_command h shown = ap (created_or ls_ended) (sym (opens_so store r opened shown.0 shown.1.created.among) ∙ shown.1.created.opened)
-
-  is_listed : (h : HistoryRecord) → Contains (ls_ended ∷ []) h → ShowsHistory store.opens (r ∷ []) h
+  is_listed : (h : HistoryRecord) → Contains (ls_ended ∷ []) h → ShowsHistory (changes_of store.opens (r ∷ [])) h
   is_listed h among = elim (Has-from_Contains (ls_ended ∷ []) h among) [
-    | inl here ↦ subst (ShowsHistory store.opens (r ∷ [])) here (command_shown store r opened)
+    | inl here ↦ subst (ShowsHistory (changes_of store.opens (r ∷ []))) here (command_shown store r opened)
     | inr later ↦ absurd later
   ]
 
-  pub found_of_one : (asked : ScopedQuery) (page : List HistoryRecord) → IsScopedAnswer asked (ls_ended ∷ []) page → SearchAnswer store.opens (r ∷ []) asked page
+  pub found_of_one : (asked : ScopedQuery) (page : List HistoryRecord) → IsScopedAnswer asked (ls_ended ∷ []) page → SearchAnswer (changes_of store.opens (r ∷ [])) asked page
   found_of_one asked page answer = record {
     entries = ls_ended ∷ [];
-    listed = record { own = HaveOwnIds-more HistoryRecord (λ h. h.id) [] ls_ended (HaveOwnIds-none HistoryRecord (λ h. h.id)) refl; same = λ h. (is_listed h, λ shown. Contains-from_Has (ls_ended ∷ []) h (inl (only_command h shown))) };
+    listed = record { own = HaveDistinctIds-more HistoryRecord (λ h. h.id) [] ls_ended (HaveDistinctIds-none HistoryRecord (λ h. h.id)) refl; same = λ h. (is_listed h, λ shown. Contains-from_Has (ls_ended ∷ []) h (inl (only_command store r opened h shown))) };
     answer = answer;
   }
 
@@ -555,11 +490,13 @@ asked = record {
   texts_above = λ text long fits. let h = fits.texts in omega (arith, long);
   of_start = refl;
   of_end = refl;
+  of_authored_end = refl;
   of_delete = refl;
   of_search = refl;
   of_host_search = refl;
   of_session_search = refl;
   of_kv_set = refl;
+  of_kv_delete = refl;
   of_kv_get = refl;
   of_kv_list = refl;
   of_alias_set = refl;
@@ -569,6 +506,8 @@ asked = record {
   of_creation = refl;
   of_deletion = refl;
   of_value = refl;
+  of_no_value = refl;
+  of_authored = refl;
   of_alias = refl;
   of_ending = refl;
 }

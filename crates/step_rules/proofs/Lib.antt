@@ -7,3 +7,5 @@ pub mod Steps
 pub mod Turns
 pub mod PageTurns
 pub mod ReadTurns
+pub mod Texts
+pub mod Sealing

@@ -4,14 +4,14 @@ use Rattle.std.specs.Prelude.{slice_index}
 use Rattle.std.proofs.lemmas.Bool.{cases_Bool, true≢false}
 use Rattle.std.proofs.lemmas.Option.{none-some, same_Some}
 use Rattle.definitions.specs.Step.{Used, used_nothing, read_clock, read_and_drew}
-use Rattle.payload_rules.specs.Payloads.{HistoryCreate, HistoryDelete, KvSet, AliasSet, AliasDelete}
+use Rattle.payload_rules.specs.Payloads.{HistoryCreate, HistoryDelete, KvSet, KvDelete, AliasSet, AliasDelete}
 use Rattle.definitions.specs.Journal.{StartedRecord, finished}
 use Rattle.record_rules.specs.Records.{Caller, Entry}
 use Rattle.record_rules.specs.Journal.{PassedLimit}
-use Rattle.step_rules.specs.Calls.{Call, start_call, end_call, delete_call, search_call, kv_set_call, kv_get_call, kv_list_call, alias_set_call, alias_delete_call, alias_list_call, status_call, is_read, LongText, long_text}
+use Rattle.step_rules.specs.Calls.{Call, start_call, end_call, delete_call, search_call, kv_set_call, kv_delete_call, kv_get_call, kv_list_call, alias_set_call, alias_delete_call, alias_list_call, status_call, is_read, LongText, long_text}
 use Rattle.step_rules.specs.Answers.{Refusal, too_long, unknown_id, unknown_name, full, id_taken, Answer, refused}
-use Rattle.step_rules.specs.Store.{KeyedStore, HasCommand, HasAlias}
-use Rattle.step_rules.specs.Step.{Draft, start_draft, record_draft, running_with, Drafts, start_drafts, end_drafts, delete_drafts, kv_set_drafts, alias_set_drafts, alias_delete_drafts, Unknown, end_unknown, delete_unknown, alias_unknown, draft_passes, Ready, draws, drawn_id, draft_event, is_taken, draft_answer, Shows, shows_hits, shows_value, shows_no_value, shows_keys, shows_aliases, shows_places, Step, long_step, unknown_step, full_step, taken_step, append_step, read_step}
+use Rattle.step_rules.specs.Store.{KeyedStore, HasCommand, HasValue, HasAlias}
+use Rattle.step_rules.specs.Step.{Draft, start_draft, record_draft, running_under, Drafts, start_drafts, end_drafts, delete_drafts, kv_set_drafts, kv_delete_drafts, alias_set_drafts, alias_delete_drafts, Unknown, end_unknown, delete_unknown, key_unknown, alias_unknown, draft_passes, Ready, draws, drawn_id, draft_event, is_taken, draft_answer, Shows, shows_hits, shows_value, shows_no_value, shows_keys, shows_aliases, shows_places, Step, long_step, unknown_step, full_step, taken_step, append_step, read_step}
 use Rattle.step_rules.specs.Laws.{ViewsAnswer, UsesOf, uses_nothing, uses_clock, uses_ten, uses_all}
 
 -- ---- what a writing call wants of a journal, its texts aside
@@ -20,17 +20,18 @@ data Want : Type 0 where
   misses : Refusal → Want
   adds : Draft → Want
 
-abbrev want_of_end : (id : ℕ) (duration exit : ℤ) → Option StartedRecord → Want
-want_of_end id duration exit None = misses (unknown_id id)
-want_of_end id duration exit (Some s) = adds (record_draft (Some id) (HistoryCreate (finished s duration exit)))
+abbrev want_of_end : (id : ℕ) (duration exit : ℤ) → Option (List ℕ) → Option StartedRecord → Want
+want_of_end id duration exit author None = misses (unknown_id id)
+want_of_end id duration exit author (Some s) = adds (record_draft (Some id) (HistoryCreate (finished s duration exit author)))
 
 -- what is wanted where the draft is there, a refusal of no meaning for a read
 abbrev want_of : List Entry → Call → Want
 want_of journal (start_call command cwd session hostname) = adds (start_draft command cwd session hostname)
-want_of journal (end_call id duration exit) = want_of_end id duration exit (running_with id journal)
+want_of journal (end_call id duration exit author) = want_of_end id duration exit author (running_under id journal)
 want_of journal (delete_call id) = adds (record_draft None (HistoryDelete id))
 want_of journal (search_call asked) = misses (unknown_id 0)
 want_of journal (kv_set_call namespace key value) = adds (record_draft None (KvSet namespace key value))
+want_of journal (kv_delete_call namespace key) = adds (record_draft None (KvDelete namespace key))
 want_of journal (kv_get_call namespace key) = misses (unknown_id 0)
 want_of journal (kv_list_call namespace after limit) = misses (unknown_id 0)
 want_of journal (alias_set_call name value) = adds (record_draft None (AliasSet name value))
@@ -41,10 +42,11 @@ want_of journal status_call = misses (unknown_id 0)
 -- what is missed where it isn't there
 abbrev missed_by : Call → Want
 missed_by (start_call command cwd session hostname) = misses (unknown_id 0)
-missed_by (end_call id duration exit) = misses (unknown_id id)
+missed_by (end_call id duration exit author) = misses (unknown_id id)
 missed_by (delete_call id) = misses (unknown_id id)
 missed_by (search_call asked) = misses (unknown_id 0)
 missed_by (kv_set_call namespace key value) = misses (unknown_id 0)
+missed_by (kv_delete_call namespace key) = misses (unknown_name key)
 missed_by (kv_get_call namespace key) = misses (unknown_id 0)
 missed_by (kv_list_call namespace after limit) = misses (unknown_id 0)
 missed_by (alias_set_call name value) = misses (unknown_id 0)
@@ -63,6 +65,14 @@ deleted _ = 0
 abbrev ended_name : Call → List ℕ
 ended_name (alias_delete_call name) = name
 ended_name _ = []
+
+abbrev deleted_space : Call → List ℕ
+deleted_space (kv_delete_call namespace key) = namespace
+deleted_space _ = []
+
+abbrev deleted_key : Call → List ℕ
+deleted_key (kv_delete_call namespace key) = key
+deleted_key _ = []
 
 deleted_id : (a b : ℕ) → delete_call a ≡ delete_call b → a ≡ b
 deleted_id a b e = ap deleted e
@@ -94,21 +104,18 @@ module _ (store : KeyedStore) (journal : List Entry) (caller : Caller) (call : C
 
   drafts_want : (draft : Draft) → Drafts store journal call draft → want_of journal call ≡ adds draft
   drafts_want draft (start_drafts _ _ _ _ e d) = ap (want_of journal) e ∙ ap adds (sym d)
-  drafts_want draft (end_drafts id duration exit s e found d) = ap (want_of journal) e ∙ ap (want_of_end id duration exit) found ∙ ap adds (sym d)
+  drafts_want draft (end_drafts id duration exit author s e found d) = ap (want_of journal) e ∙ ap (want_of_end id duration exit author) found ∙ ap adds (sym d)
   drafts_want draft (delete_drafts id e shown d) = ap (want_of journal) e ∙ ap adds (sym d)
   drafts_want draft (kv_set_drafts _ _ _ e d) = ap (want_of journal) e ∙ ap adds (sym d)
+  drafts_want draft (kv_delete_drafts _ _ e shown d) = ap (want_of journal) e ∙ ap adds (sym d)
   drafts_want draft (alias_set_drafts _ _ e d) = ap (want_of journal) e ∙ ap adds (sym d)
   drafts_want draft (alias_delete_drafts name e shown d) = ap (want_of journal) e ∙ ap adds (sym d)
 
   unknown_wants : (refusal : Refusal) → Unknown store journal call refusal → missed_by call ≡ misses refusal
-  unknown_wants refusal (end_unknown id duration exit e none r) = ap missed_by e ∙ ap misses (sym r)
+  unknown_wants refusal (end_unknown id duration exit author e none r) = ap missed_by e ∙ ap misses (sym r)
   unknown_wants refusal (delete_unknown id e none r) = ap missed_by e ∙ ap misses (sym r)
+  unknown_wants refusal (key_unknown namespace key e none r) = ap missed_by e ∙ ap misses (sym r)
   unknown_wants refusal (alias_unknown name e none r) = ap missed_by e ∙ ap misses (sym r)
-
-  unknown_short : (refusal : Refusal) → Unknown store journal call refusal → long_text call ≡ None
-  unknown_short refusal (end_unknown id duration exit e none r) = ap long_text e
-  unknown_short refusal (delete_unknown id e none r) = ap long_text e
-  unknown_short refusal (alias_unknown name e none r) = ap long_text e
 
   pub shows_read : (answer : Answer) → Shows store journal call answer → is_read call ≡ true
   shows_read answer (shows_hits _ _ e _ _) = ap is_read e
@@ -121,25 +128,38 @@ module _ (store : KeyedStore) (journal : List Entry) (caller : Caller) (call : C
   -- what is wanted to delete is there
   same_delete : (id : ℕ) (draft : Draft) → call ≡ delete_call id → Drafts store journal call draft → HasCommand store journal id
   same_delete id draft is (start_drafts _ _ _ _ e d) = absurd (let other = sym is ∙ e in cc)
-  same_delete id draft is (end_drafts _ _ _ _ e _ d) = absurd (let other = sym is ∙ e in cc)
+  same_delete id draft is (end_drafts _ _ _ _ _ e _ d) = absurd (let other = sym is ∙ e in cc)
   same_delete id draft is (delete_drafts other e shown d) = (shown.0, shown.1, shown.2 ∙ deleted_id other id (sym e ∙ is))
   same_delete id draft is (kv_set_drafts _ _ _ e d) = absurd (let other = sym is ∙ e in cc)
+  same_delete id draft is (kv_delete_drafts _ _ e _ d) = absurd (let other = sym is ∙ e in cc)
   same_delete id draft is (alias_set_drafts _ _ e d) = absurd (let other = sym is ∙ e in cc)
   same_delete id draft is (alias_delete_drafts _ e _ d) = absurd (let other = sym is ∙ e in cc)
 
   same_alias : (name : List ℕ) (draft : Draft) → call ≡ alias_delete_call name → Drafts store journal call draft → HasAlias store journal name
   same_alias name draft is (start_drafts _ _ _ _ e d) = absurd (let other = sym is ∙ e in cc)
-  same_alias name draft is (end_drafts _ _ _ _ e _ d) = absurd (let other = sym is ∙ e in cc)
+  same_alias name draft is (end_drafts _ _ _ _ _ e _ d) = absurd (let other = sym is ∙ e in cc)
   same_alias name draft is (delete_drafts _ e _ d) = absurd (let other = sym is ∙ e in cc)
   same_alias name draft is (kv_set_drafts _ _ _ e d) = absurd (let other = sym is ∙ e in cc)
+  same_alias name draft is (kv_delete_drafts _ _ e _ d) = absurd (let other = sym is ∙ e in cc)
   same_alias name draft is (alias_set_drafts _ _ e d) = absurd (let other = sym is ∙ e in cc)
   same_alias name draft is (alias_delete_drafts other e shown d) = subst (HasAlias store journal) (deleted_name other name (sym e ∙ is)) shown
 
+  same_key : (namespace key : List ℕ) (draft : Draft) → call ≡ kv_delete_call namespace key → Drafts store journal call draft → HasValue store journal namespace key
+  same_key namespace key draft is (start_drafts _ _ _ _ e d) = absurd (let other = sym is ∙ e in cc)
+  same_key namespace key draft is (end_drafts _ _ _ _ _ e _ d) = absurd (let other = sym is ∙ e in cc)
+  same_key namespace key draft is (delete_drafts _ e _ d) = absurd (let other = sym is ∙ e in cc)
+  same_key namespace key draft is (kv_set_drafts _ _ _ e d) = absurd (let other = sym is ∙ e in cc)
+  same_key namespace key draft is (kv_delete_drafts space other e shown d) =
+      subst (λ (text : List ℕ). HasValue store journal text key) (ap deleted_space (sym e ∙ is)) (subst (λ (text : List ℕ). HasValue store journal space text) (ap deleted_key (sym e ∙ is)) shown)
+  same_key namespace key draft is (alias_set_drafts _ _ e d) = absurd (let other = sym is ∙ e in cc)
+  same_key namespace key draft is (alias_delete_drafts _ e _ d) = absurd (let other = sym is ∙ e in cc)
+
   apart : (draft : Draft) (refusal : Refusal) → Drafts store journal call draft → Unknown store journal call refusal → ⊥
-  apart draft refusal drafts (end_unknown id duration exit e none r) =
-      let wants : adds draft ≡ misses (unknown_id id) = sym (drafts_want draft drafts) ∙ ap (want_of journal) e ∙ ap (want_of_end id duration exit) none in
+  apart draft refusal drafts (end_unknown id duration exit author e none r) =
+      let wants : adds draft ≡ misses (unknown_id id) = sym (drafts_want draft drafts) ∙ ap (want_of journal) e ∙ ap (want_of_end id duration exit author) none in
       cc
   apart draft refusal drafts (delete_unknown id e missing r) = missing (same_delete id draft e drafts)
+  apart draft refusal drafts (key_unknown namespace key e missing r) = missing (same_key namespace key draft e drafts)
   apart draft refusal drafts (alias_unknown name e missing r) = missing (same_alias name draft e drafts)
 
   one_want : (a b : Want) → IsWanted a → IsWanted b → a ≡ b
@@ -163,7 +183,7 @@ module _ (store : KeyedStore) (journal : List Entry) (caller : Caller) (call : C
 
   because : (used : Used) (after : List Entry) (answer : Answer) → is_read call ≡ false → Step store journal caller call used after answer → Because used (outcome_of after answer)
   because used after answer writes (long_step now long _ is_long r) = too_much long is_long (outcome_is after journal answer _ r.stays r.answer_is)
-  because used after answer writes (unknown_step now refusal _ unknown r) = wanted (misses refusal) (unknown_short refusal unknown) unknown (outcome_is after journal answer _ r.stays r.answer_is)
+  because used after answer writes (unknown_step now refusal _ short unknown r) = wanted (misses refusal) short unknown (outcome_is after journal answer _ r.stays r.answer_is)
   because used after answer writes (full_step now draft passed _ short drafts passes r) = wanted (adds draft) short drafts (outcome_is after journal answer _ r.stays r.answer_is ∙ sym (ap (draft_outcome draft used) passes))
   because used after answer writes (taken_step now drawn draft is _ ready taken r) = wanted (adds draft) ready.short ready.drafts (outcome_is after journal answer _ r.stays r.answer_is ∙ sym (drawn_expected used draft now drawn true ready is taken))
   because used after answer writes (append_step now drawn draft is _ ready free after_is answer_is) = wanted (adds draft) ready.short ready.drafts (outcome_is after _ answer _ after_is answer_is ∙ sym (drawn_expected used draft now drawn false ready is free))
@@ -204,8 +224,15 @@ module _ (store : KeyedStore) (journal : List Entry) (caller : Caller) (call : C
     shown_happens : (answer : Answer) → Shows store journal call answer → Happens
     shown_happens answer shows = happens used_nothing journal answer (uses_nothing refl) (read_step refl shows refl)
 
+    long_happens : (long : LongText) → long_text call ≡ Some long → Happens
+    long_happens long is_long = happens (read_clock now) journal (refused (too_long long.field long.length)) (uses_clock refl) (long_step now long refl is_long (record { stays = refl; answer_is = refl }))
+
+    missed_happens : (refusal : Refusal) (long : Option LongText) → Unknown store journal call refusal → long_text call ≡ long → Happens
+    missed_happens refusal None unknown short = happens (read_clock now) journal (refused refusal) (uses_clock refl) (unknown_step now refusal refl short unknown (record { stays = refl; answer_is = refl }))
+    missed_happens refusal (Some long) unknown is_long = long_happens long is_long
+
     unknown_happens : (refusal : Refusal) → Unknown store journal call refusal → Happens
-    unknown_happens refusal unknown = happens (read_clock now) journal (refused refusal) (uses_clock refl) (unknown_step now refusal refl unknown (record { stays = refl; answer_is = refl }))
+    unknown_happens refusal unknown = missed_happens refusal (long_text call) unknown refl
 
     module _ (ten_are : length ten ≡ 10) (all_are : length all ≡ 106) where
       bytes_are : (draft : Draft) → length (bytes_for draft) ≡ draws draft
@@ -225,22 +252,22 @@ module _ (store : KeyedStore) (journal : List Entry) (caller : Caller) (call : C
 
       by_length : (draft : Draft) (long : Option LongText) → Drafts store journal call draft → long_text call ≡ long → Happens
       by_length draft None drafts short = by_room draft (draft_passes store journal draft) short drafts refl
-      by_length draft (Some long) drafts is_long = happens (read_clock now) journal (refused (too_long long.field long.length)) (uses_clock refl) (long_step now long refl is_long (record { stays = refl; answer_is = refl }))
+      by_length draft (Some long) drafts is_long = long_happens long is_long
 
       pub draft_happens : (draft : Draft) → Drafts store journal call draft → Happens
       draft_happens draft drafts = by_length draft (long_text call) drafts refl
 
 module _ (store : KeyedStore) (journal : List Entry) (caller : Caller) (now : ℕ) (ten all : List ℕ) (ten_are : length ten ≡ 10) (all_are : length all ≡ 106) (views : ViewsAnswer store journal) where
-  end_happens : (id : ℕ) (duration exit : ℤ) (found : Option StartedRecord) → running_with id journal ≡ found → Happens store journal caller (end_call id duration exit) now ten all
-  end_happens id duration exit None none = unknown_happens store journal caller (end_call id duration exit) now ten all (unknown_id id) (end_unknown id duration exit refl none refl)
-  end_happens id duration exit (Some s) found = draft_happens store journal caller (end_call id duration exit) now ten all ten_are all_are (record_draft (Some id) (HistoryCreate (finished s duration exit))) (end_drafts id duration exit s refl found refl)
+  end_happens : (id : ℕ) (duration exit : ℤ) (author : Option (List ℕ)) (found : Option StartedRecord) → running_under id journal ≡ found → Happens store journal caller (end_call id duration exit author) now ten all
+  end_happens id duration exit author None none = unknown_happens store journal caller (end_call id duration exit author) now ten all (unknown_id id) (end_unknown id duration exit author refl none refl)
+  end_happens id duration exit author (Some s) found = draft_happens store journal caller (end_call id duration exit author) now ten all ten_are all_are (record_draft (Some id) (HistoryCreate (finished s duration exit author))) (end_drafts id duration exit author s refl found refl)
 
   read_happens : (call : Call) → (answer : Answer) × Shows store journal call answer → Happens store journal caller call now ten all
   read_happens call told = shown_happens store journal caller call now ten all told.0 told.1
 
   pub every_call_happens : (call : Call) → Happens store journal caller call now ten all
   every_call_happens (start_call command cwd session hostname) = draft_happens store journal caller (start_call command cwd session hostname) now ten all ten_are all_are (start_draft command cwd session hostname) (start_drafts command cwd session hostname refl refl)
-  every_call_happens (end_call id duration exit) = end_happens id duration exit (running_with id journal) refl
+  every_call_happens (end_call id duration exit author) = end_happens id duration exit author (running_under id journal) refl
   every_call_happens (delete_call id) =
       elim (views.command id) [
         | inl shown ↦ draft_happens store journal caller (delete_call id) now ten all ten_are all_are (record_draft None (HistoryDelete id)) (delete_drafts id refl shown refl)
@@ -248,6 +275,11 @@ module _ (store : KeyedStore) (journal : List Entry) (caller : Caller) (now : �
       ]
   every_call_happens (search_call asked) = read_happens (search_call asked) (views.reads (search_call asked) refl)
   every_call_happens (kv_set_call namespace key value) = draft_happens store journal caller (kv_set_call namespace key value) now ten all ten_are all_are (record_draft None (KvSet namespace key value)) (kv_set_drafts namespace key value refl refl)
+  every_call_happens (kv_delete_call namespace key) =
+      elim (views.value namespace key) [
+        | inl shown ↦ draft_happens store journal caller (kv_delete_call namespace key) now ten all ten_are all_are (record_draft None (KvDelete namespace key)) (kv_delete_drafts namespace key refl shown refl)
+        | inr missing ↦ unknown_happens store journal caller (kv_delete_call namespace key) now ten all (unknown_name key) (key_unknown namespace key refl missing refl)
+      ]
   every_call_happens (kv_get_call namespace key) = read_happens (kv_get_call namespace key) (views.reads (kv_get_call namespace key) refl)
   every_call_happens (kv_list_call namespace after limit) = read_happens (kv_list_call namespace after limit) (views.reads (kv_list_call namespace after limit) refl)
   every_call_happens (alias_set_call name value) = draft_happens store journal caller (alias_set_call name value) now ten all ten_are all_are (record_draft None (AliasSet name value)) (alias_set_drafts name value refl refl)

@@ -5,37 +5,14 @@ use Rattle.std.proofs.lemmas.Bool.{true≢false}
 use Rattle.std.proofs.lemmas.List.{append-nil, map-append}
 use Rattle.definitions.specs.Step.{Used, used_nothing}
 use Rattle.record_rules.specs.Records.{Caller, Entry}
-use Rattle.record_rules.specs.Journal.{event_owner, owned_by, events_of, own_events, records_of, in_place, IsNumbered, EventFits, IsOfHost, TotalsFit, held_of, is_running, Sound}
+use Rattle.record_rules.specs.Journal.{events_of, SoundEvents, Sound}
 use Rattle.step_rules.specs.Calls.{Call, CallFits, is_read}
 use Rattle.step_rules.specs.Answers.{Answer, Reply}
 use Rattle.step_rules.specs.Store.{KeyedStore, SealsWell}
-use Rattle.step_rules.specs.Turn.{settled_entry, settled, TurnLeaves, Turn, read_turn, short_read_turn, unsettled_turn, step_turn, undrawn_turn, uncommitted_turn, short_turn, short_settled_turn}
+use Rattle.step_rules.specs.Turn.{settled_entry, settled, TurnLeaves, Turn, read_turn, short_unread_turn, unsettled_turn, step_turn, undrawn_turn, uncommitted_turn, short_turn, short_settled_turn}
 use Rattle.step_rules.proofs.Steps.{Step-sound, Step-adds, drafts_write}
 
 -- ---- soundness speaks of events alone
-
-own_by_events : (journal : List Entry) (owner : ℕ) → own_events journal owner ≡ filter (λ event. event_owner event == owner) (events_of journal)
-own_by_events [] owner = refl
-own_by_events (entry ∷ journal) owner =
-    let rest = own_by_events journal owner in
-    elim (owned_by owner entry) as (λ b. events_of (cond b (entry ∷ filter (owned_by owner) journal) (filter (owned_by owner) journal)) ≡ cond b (entry.event ∷ filter (λ event. event_owner event == owner) (events_of journal)) (filter (λ event. event_owner event == owner) (events_of journal))) [
-      | true ↦ ap (λ events. entry.event ∷ events) rest
-      | false ↦ rest
-    ]
-
-module _ (journal other : List Entry) (host : ℕ) (same : events_of journal ≡ events_of other) where
-  own_same : (owner : ℕ) → own_events journal owner ≡ own_events other owner
-  own_same owner = own_by_events journal owner ∙ ap (filter (λ event. event_owner event == owner)) same ∙ sym (own_by_events other owner)
-
-  pub Sound-by_events : Sound journal host → Sound other host
-  Sound-by_events sound = record {
-    numbered = λ owner origin tag. subst (λ events. IsNumbered (filter (in_place origin tag) (records_of events))) (own_same owner) (sound.numbered owner origin tag);
-    made_here = subst (All (IsOfHost host)) same sound.made_here;
-    closes_running = λ k closed r at. subst (λ events. IsTrue (is_running closed (take k events))) same (sound.closes_running k closed r (ap (λ events. slice_get events k) same ∙ at));
-    started_apart = λ i k s t below at_i at_k. sound.started_apart i k s t below (ap (λ events. slice_get events i) same ∙ at_i) (ap (λ events. slice_get events k) same ∙ at_k);
-    events_fit = subst (All EventFits) same sound.events_fit;
-    held_fits = λ owner. subst (λ events. TotalsFit (held_of events)) (own_same owner) (sound.held_fits owner);
-  }
 
 settled_events : (batch : List Entry) → events_of batch ≡ events_of (map settled_entry batch)
 settled_events [] = refl
@@ -44,7 +21,7 @@ settled_events (entry ∷ batch) = ap (λ events. entry.event ∷ events) (settl
 -- a batch may be settled where it may stand
 pub settled_sound : (journal batch : List Entry) (host : ℕ) → Sound (journal ++ batch) host → Sound (settled journal batch) host
 settled_sound journal batch host sound =
-    Sound-by_events (journal ++ batch) (settled journal batch) host
+    subst (λ events. SoundEvents events host)
     (map-append (λ (e : Entry). e.event) journal batch ∙ ap (λ events. events_of journal ++ events) (settled_events batch) ∙ sym (map-append (λ (e : Entry). e.event) journal (map settled_entry batch)))
     sound
 
@@ -70,7 +47,7 @@ lost_or_left journal batch left host sound more (inr kept) = subst (λ l. Sound 
 
 pub Turn-sound : (store : KeyedStore) (journal doubt : List Entry) (caller : Caller) (call : Call) (used : Used) (after doubt_after : List Entry) (reply : Reply) → SealsWell store → CallFits call → Sound journal store.host → Sound (settled journal doubt) store.host → Turn store journal doubt caller call used after doubt_after reply → BothSound store.host after doubt_after
 Turn-sound store journal doubt caller call used after doubt_after reply well asked sound doubted (read_turn _ _ _ l) = left_sound store journal doubt after doubt_after reply _ store.host l sound doubted
-Turn-sound store journal doubt caller call used after doubt_after reply well asked sound doubted (short_read_turn _ _ l) = left_sound store journal doubt after doubt_after reply _ store.host l sound doubted
+Turn-sound store journal doubt caller call used after doubt_after reply well asked sound doubted (short_unread_turn _ l) = left_sound store journal doubt after doubt_after reply _ store.host l sound doubted
 Turn-sound store journal doubt caller call used after doubt_after reply well asked sound doubted (unsettled_turn _ _ _ _ l) = left_sound store journal doubt after doubt_after reply _ store.host l sound doubted
 Turn-sound store journal doubt caller call used after doubt_after reply well asked sound doubted (step_turn made answer _ step l) =
     let stepped = Step-sound store (settled journal doubt) caller call used made answer well asked doubted step in
@@ -94,7 +71,7 @@ left_as journal from doubt after doubt_after added reply answer more l = record 
 
 pub Turn-leaves : (store : KeyedStore) (journal doubt : List Entry) (caller : Caller) (call : Call) (used : Used) (after doubt_after : List Entry) (reply : Reply) → Turn store journal doubt caller call used after doubt_after reply → TurnAdds journal after reply
 Turn-leaves store journal doubt caller call used after doubt_after reply (read_turn _ _ _ l) = left_as journal journal doubt after doubt_after [] reply _ (sym (append-nil journal)) l
-Turn-leaves store journal doubt caller call used after doubt_after reply (short_read_turn _ _ l) = left_as journal journal doubt after doubt_after [] reply _ (sym (append-nil journal)) l
+Turn-leaves store journal doubt caller call used after doubt_after reply (short_unread_turn _ l) = left_as journal journal doubt after doubt_after [] reply _ (sym (append-nil journal)) l
 Turn-leaves store journal doubt caller call used after doubt_after reply (unsettled_turn _ _ _ _ l) = left_as journal journal doubt after doubt_after [] reply _ (sym (append-nil journal)) l
 Turn-leaves store journal doubt caller call used after doubt_after reply (step_turn made answer _ step l) =
     let adds = Step-adds store (settled journal doubt) caller call used made answer step in
@@ -113,7 +90,7 @@ module _ (store : KeyedStore) (journal doubt : List Entry) (caller : Caller) (ca
 
   pub reads_stay : Turn store journal doubt caller call used after doubt_after reply → (used ≡ used_nothing) × (after ≡ journal) × (doubt_after ≡ doubt)
   reads_stay (read_turn _ e _ l) = (e, l.journal_is, l.doubt_is)
-  reads_stay (short_read_turn _ e l) = (e, l.journal_is, l.doubt_is)
+  reads_stay (short_unread_turn e l) = (e, l.journal_is, l.doubt_is)
   reads_stay (unsettled_turn _ writes _ _ _) = absurd (not_both writes)
   reads_stay (step_turn _ _ writes _ _) = absurd (not_both writes)
   reads_stay (undrawn_turn _ draft ready _ _) = absurd (not_both (drafts_write store (settled journal doubt) call draft ready.drafts))

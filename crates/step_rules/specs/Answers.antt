@@ -6,7 +6,7 @@ use Rattle.view_rules.specs.Answers.{Named}
 
 -- why a call is refused, in the order of their numbers from 1
 pub data Refusal : Type 0 where
-  -- the place of the text among the arguments, from 1, and its length in bytes
+  -- the field of the text, and its length in bytes
   too_long : (field length : ℕ) → Refusal
   unknown_id : (id : ℕ) → Refusal
   unknown_name : (name : List ℕ) → Refusal

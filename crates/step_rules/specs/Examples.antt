@@ -3,19 +3,19 @@ use Rattle.std.specs.Prelude.{◌≡◌, ℕ, ◌-◌, ◌^◌, pos, negsuc, ◌
 use Rattle.definitions.specs.Ids.{made_id}
 use Rattle.definitions.specs.Calls.{by_prefix}
 use Rattle.definitions.specs.Step.{used_nothing, read_clock, read_and_drew, read_and_failed}
-use Rattle.definitions.specs.Examples.{first_time, ten_bytes, first_id, ls, ls_ended}
-use Rattle.payload_rules.specs.Payloads.{HistoryCreate, HistoryDelete, KvSet, AliasSet, AliasDelete, tag_of, history_tag}
+use Rattle.definitions.specs.Examples.{first_time, ten_bytes, first_id, ls, ls_ended, authored_ls}
+use Rattle.payload_rules.specs.Payloads.{HistoryCreate, HistoryDelete, KvSet, KvDelete, AliasSet, AliasDelete, tag_of, history_tag}
 use Rattle.record_rules.specs.Records.{SealedRecord, Caller, Entry, Started, Local, Taken}
-use Rattle.record_rules.specs.Journal.{fits}
+use Rattle.record_rules.specs.Journal.{first_limit_passed}
 use Rattle.record_rules.specs.Growth.{PageGap}
 use Rattle.record_rules.specs.Examples.{kv_record, placed_record, ls_entry}
-use Rattle.view_rules.specs.Views.{OpensByTag}
+use Rattle.view_rules.specs.Changes.{OpensByTag}
 use Rattle.view_rules.specs.Answers.{Scope, of_all, of_hostname, of_session, of_cwd}
-use Rattle.step_rules.specs.Calls.{Call, start_call, end_call, delete_call, search_call, kv_set_call, kv_get_call, kv_list_call, alias_set_call, alias_delete_call, alias_list_call, status_call, long_text, call_bytes, CallFits}
-use Rattle.step_rules.specs.Answers.{too_long, unknown_id, unknown_name, full, random_fault, id_taken, disk_fault, no_memory, began, stored, hits, value_is, keys, aliases, places, refused, Reply}
+use Rattle.step_rules.specs.Calls.{Call, start_call, end_call, delete_call, search_call, kv_set_call, kv_delete_call, kv_get_call, kv_list_call, alias_set_call, alias_delete_call, alias_list_call, status_call, long_text, call_bytes, CallFits}
+use Rattle.step_rules.specs.Answers.{too_long, unknown_id, unknown_name, full, random_fault, id_taken, disk_fault, no_memory, began, stored, hits, value_is, keys, aliases, places, refused, Answer, Reply}
 use Rattle.step_rules.specs.Store.{Head, Seal, KeyedStore, payload_text_bytes, SealsWell}
 use Rattle.step_rules.specs.Step.{start_draft, record_draft, Drafts, draft_place, next_head, draft_answer, Shows, Step}
-use Rattle.step_rules.specs.Turn.{UsedSome, Turn}
+use Rattle.step_rules.specs.Turn.{UsedBeforeFailing, Turn}
 use Rattle.step_rules.specs.PageTurns.{took, page_refused, page_faulted, page_no_memory, PageTurn}
 use Rattle.step_rules.specs.ReadTurns.{status_read, page_read, front_read, told_status, told_page, told_front, read_faulted, read_no_memory, ReadTurn}
 
@@ -95,19 +95,19 @@ pub record WorkedCommand : Type 0 where
   pub starts : (store : KeyedStore) → Step store [] (call_of 1) ls_call (read_and_drew first_time ten_bytes) (ls_entry ∷ []) (began first_id)
   -- with the bytes of the first start another one is refused
   pub starts_again : (store : KeyedStore) → Step store (ls_entry ∷ []) (call_of 2) ls_call (read_and_drew first_time ten_bytes) (ls_entry ∷ []) (refused (id_taken first_id))
-  pub ends : (store : KeyedStore) (drawn : List ℕ) → OfExample store → length drawn ≡ 106 → Step store (ls_entry ∷ []) (call_of 2) (end_call first_id (pos 1000) (pos 0)) (read_and_drew second_time drawn) (ls_entry ∷ end_entry store drawn ∷ []) (stored 0)
+  pub ends : (store : KeyedStore) (drawn : List ℕ) → OfExample store → length drawn ≡ 106 → Step store (ls_entry ∷ []) (call_of 2) (end_call first_id (pos 1000) (pos 0) None) (read_and_drew second_time drawn) (ls_entry ∷ end_entry store drawn ∷ []) (stored 0)
   -- and once it has ended it runs no more
-  pub ends_again : (store : KeyedStore) (drawn : List ℕ) → Step store (ls_entry ∷ end_entry store drawn ∷ []) (call_of 3) (end_call first_id (pos 1000) (pos 0)) (read_clock second_time) (ls_entry ∷ end_entry store drawn ∷ []) (refused (unknown_id first_id))
+  pub ends_again : (store : KeyedStore) (drawn : List ℕ) → Step store (ls_entry ∷ end_entry store drawn ∷ []) (call_of 3) (end_call first_id (pos 1000) (pos 0) None) (read_clock second_time) (ls_entry ∷ end_entry store drawn ∷ []) (refused (unknown_id first_id))
   -- and an id that is not the one that runs
-  pub other_runs : (store : KeyedStore) → Step store (ls_entry ∷ []) (call_of 2) (end_call 7 (pos 1000) (pos 0)) (read_clock second_time) (ls_entry ∷ []) (refused (unknown_id 7))
+  pub other_runs : (store : KeyedStore) → Step store (ls_entry ∷ []) (call_of 2) (end_call 7 (pos 1000) (pos 0) None) (read_clock second_time) (ls_entry ∷ []) (refused (unknown_id 7))
   -- a record with the id that a start draws refuses nothing
   pub starts_beside : (store : KeyedStore) (r : SealedRecord) → r.id ≡ first_id → Step store (record { caller = call_of 2; event = Taken 5 r } ∷ []) (call_of 1) ls_call (read_and_drew first_time ten_bytes) (record { caller = call_of 2; event = Taken 5 r } ∷ ls_entry ∷ []) (began first_id)
   -- a record of any owner may have the drawn id already
-  pub end_taken : (store : KeyedStore) (drawn : List ℕ) (r : SealedRecord) → OfExample store → length drawn ≡ 106 → r.id ≡ end_id drawn → Step store (ls_entry ∷ record { caller = call_of 2; event = Taken 5 r } ∷ []) (call_of 3) (end_call first_id (pos 1000) (pos 0)) (read_and_drew second_time drawn) (ls_entry ∷ record { caller = call_of 2; event = Taken 5 r } ∷ []) (refused (id_taken (end_id drawn)))
+  pub end_taken : (store : KeyedStore) (drawn : List ℕ) (r : SealedRecord) → OfExample store → length drawn ≡ 106 → r.id ≡ end_id drawn → Step store (ls_entry ∷ record { caller = call_of 2; event = Taken 5 r } ∷ []) (call_of 3) (end_call first_id (pos 1000) (pos 0) None) (read_and_drew second_time drawn) (ls_entry ∷ record { caller = call_of 2; event = Taken 5 r } ∷ []) (refused (id_taken (end_id drawn)))
   -- where the owner is full nothing is drawn
-  pub is_full : (store : KeyedStore) (journal : List Entry) → fits journal 0 136 None ≡ Some (record { what = 1; held = 4000000 }) → Step store journal (call_of 1) ls_call (read_clock first_time) journal (refused (full (record { what = 1; held = 4000000 })))
+  pub is_full : (store : KeyedStore) (journal : List Entry) → first_limit_passed journal 0 136 None ≡ Some (record { what = 1; held = 4000000 }) → Step store journal (call_of 1) ls_call (read_clock first_time) journal (refused (full (record { what = 1; held = 4000000 })))
   -- an id that never ran
-  pub never_ran : (store : KeyedStore) → Step store [] (call_of 1) (end_call (2 ^ 128 - 1) (pos 0) (pos 0)) (read_clock first_time) [] (refused (unknown_id (2 ^ 128 - 1)))
+  pub never_ran : (store : KeyedStore) → Step store [] (call_of 1) (end_call (2 ^ 128 - 1) (pos 0) (pos 0) None) (read_clock first_time) [] (refused (unknown_id (2 ^ 128 - 1)))
 
 -- texts at their limits, and one byte above
 pub record WorkedTexts : Type 0 where
@@ -124,6 +124,10 @@ pub record WorkedTexts : Type 0 where
   pub kv_value_at_most : (value : List ℕ) → length value ≡ 262144 → long_text (kv_set_call (codes "n") (codes "k") value) ≡ None
   pub name_above : (name value : List ℕ) → length name ≡ 4097 → long_text (alias_set_call name value) ≡ Some (record { field = 1; length = 4097 })
   pub alias_value_above : (value : List ℕ) → length value ≡ 262145 → long_text (alias_set_call (codes "g") value) ≡ Some (record { field = 2; length = 262145 })
+  -- an author is the fourth field of an End, and is judged before the id is looked up
+  pub author_at_most : (id : ℕ) (author : List ℕ) → length author ≡ 4096 → long_text (end_call id (pos 0) (pos 0) (Some author)) ≡ None
+  pub author_above : (store : KeyedStore) (id : ℕ) (author : List ℕ) → length author ≡ 4097 → Step store [] (call_of 1) (end_call id (pos 0) (pos 0) (Some author)) (read_clock first_time) [] (refused (too_long 4 4097))
+  pub author_first : (store : KeyedStore) (id : ℕ) (author : List ℕ) (after : List Entry) (answer : Answer) → length author ≡ 4097 → Step store [] (call_of 1) (end_call id (pos 0) (pos 0) (Some author)) (read_clock first_time) after answer → answer ≡ refused (unknown_id id) → ⊥
   pub alias_value_at_most : (value : List ℕ) → length value ≡ 262144 → long_text (alias_set_call (codes "g") value) ≡ None
 
 pub record WorkedViews : Type 0 where
@@ -133,6 +137,8 @@ pub record WorkedViews : Type 0 where
   pub a_key : (store : KeyedStore) (r : SealedRecord) → store.opens r ≡ Some (KvSet (codes "n") (codes "k") (codes "v")) → Shows store (record { caller = call_of 1; event = Local None r } ∷ []) (kv_list_call (codes "n") [] 5) (keys (codes "k" ∷ []))
   pub no_key_above : (store : KeyedStore) (r : SealedRecord) → store.opens r ≡ Some (KvSet (codes "n") (codes "k") (codes "v")) → Shows store (record { caller = call_of 1; event = Local None r } ∷ []) (kv_list_call (codes "n") (codes "k") 5) (keys [])
   pub no_alias_above : (store : KeyedStore) (r : SealedRecord) → store.opens r ≡ Some (AliasSet (codes "g") (codes "v")) → Shows store (record { caller = call_of 1; event = Local None r } ∷ []) (alias_list_call (codes "g") 5) (aliases [])
+  -- a pair that was never set: its key is told
+  pub no_pair : (store : KeyedStore) → Step store [] (call_of 1) (kv_delete_call (codes "n") (codes "k")) (read_clock first_time) [] (refused (unknown_name (codes "k")))
   -- the value of a key, and none of another key
   pub a_value : (store : KeyedStore) (r : SealedRecord) → store.opens r ≡ Some (KvSet (codes "n") (codes "k") (codes "v")) → Turn store (record { caller = call_of 1; event = Local None r } ∷ []) [] (call_of 2) (kv_get_call (codes "n") (codes "k")) used_nothing (record { caller = call_of 1; event = Local None r } ∷ []) [] (record { front = 1; answer = value_is (Some (codes "v")) })
   pub no_value : (store : KeyedStore) (r : SealedRecord) → store.opens r ≡ Some (KvSet (codes "n") (codes "k") (codes "v")) → Turn store (record { caller = call_of 1; event = Local None r } ∷ []) [] (call_of 2) (kv_get_call (codes "n") (codes "other")) used_nothing (record { caller = call_of 1; event = Local None r } ∷ []) [] (record { front = 1; answer = value_is None })
@@ -144,6 +150,7 @@ one_made = record { caller = call_of 1; event = Local None (placed_record 1 (cod
 -- what is to be appended for each call that names what is there, or sets it
 pub record WorkedDrafts : Type 0 where
   pub sets_key : (store : KeyedStore) → Drafts store [] (kv_set_call (codes "n") (codes "k") (codes "v")) (record_draft None (KvSet (codes "n") (codes "k") (codes "v")))
+  pub deletes_key : (store : KeyedStore) (r : SealedRecord) → store.opens r ≡ Some (KvSet (codes "n") (codes "k") (codes "v")) → Drafts store (record { caller = call_of 1; event = Local None r } ∷ []) (kv_delete_call (codes "n") (codes "k")) (record_draft None (KvDelete (codes "n") (codes "k")))
   pub sets_alias : (store : KeyedStore) → Drafts store [] (alias_set_call (codes "g") (codes "v")) (record_draft None (AliasSet (codes "g") (codes "v")))
   -- the command that is shown, and none of another id
   pub deletes : (store : KeyedStore) (r : SealedRecord) → store.opens r ≡ Some (HistoryCreate ls_ended) → Drafts store (record { caller = call_of 1; event = Local None r } ∷ []) (delete_call first_id) (record_draft None (HistoryDelete first_id))
@@ -169,7 +176,7 @@ pub record RunOf (store : KeyedStore) (drawn : List ℕ) : Type 0 where
   pub starts : Turn store [] [] (call_of 1) ls_call (read_and_drew first_time ten_bytes) (ls_entry ∷ []) [] (record { front = 1; answer = began first_id })
   -- until it has ended it isn't found
   pub none_ended : Turn store (ls_entry ∷ []) [] (call_of 2) (search_of of_all (codes "ls") 0 100) used_nothing (ls_entry ∷ []) [] (record { front = 1; answer = hits [] })
-  pub ends : Turn store (ls_entry ∷ []) [] (call_of 2) (end_call first_id (pos 1000) (pos 0)) (read_and_drew second_time drawn) (ls_entry ∷ end_entry store drawn ∷ []) [] (record { front = 2; answer = stored 0 })
+  pub ends : Turn store (ls_entry ∷ []) [] (call_of 2) (end_call first_id (pos 1000) (pos 0) None) (read_and_drew second_time drawn) (ls_entry ∷ end_entry store drawn ∷ []) [] (record { front = 2; answer = stored 0 })
   pub is_found : Turn store (ls_entry ∷ end_entry store drawn ∷ []) [] (call_of 3) (search_of of_all (codes "ls") 0 100) used_nothing (ls_entry ∷ end_entry store drawn ∷ []) [] (record { front = 2; answer = hits (ls_ended ∷ []) })
   -- another text isn't found, nor a second hit
   pub other_text : Turn store (ls_entry ∷ end_entry store drawn ∷ []) [] (call_of 3) (search_of of_all (codes "pwd") 0 100) used_nothing (ls_entry ∷ end_entry store drawn ∷ []) [] (record { front = 2; answer = hits [] })
@@ -185,11 +192,11 @@ pub record WorkedAsked : Type 0 where
   -- ids of 128 bits
   pub id_at_most : CallFits (delete_call (2 ^ 128 - 1))
   pub id_above : CallFits (delete_call (2 ^ 128)) → ⊥
-  pub end_id_above : CallFits (end_call (2 ^ 128) (pos 0) (pos 0)) → ⊥
+  pub end_id_above : CallFits (end_call (2 ^ 128) (pos 0) (pos 0) None) → ⊥
   -- durations and statuses of 64 bits with a sign
-  pub end_at_most : CallFits (end_call (2 ^ 128 - 1) (pos (2 ^ 63 - 1)) (negsuc (2 ^ 63 - 1)))
-  pub duration_above : CallFits (end_call 0 (pos (2 ^ 63)) (pos 0)) → ⊥
-  pub status_below : CallFits (end_call 0 (pos 0) (negsuc (2 ^ 63))) → ⊥
+  pub end_at_most : CallFits (end_call (2 ^ 128 - 1) (pos (2 ^ 63 - 1)) (negsuc (2 ^ 63 - 1)) None)
+  pub duration_above : CallFits (end_call 0 (pos (2 ^ 63)) (pos 0) None) → ⊥
+  pub status_below : CallFits (end_call 0 (pos 0) (negsuc (2 ^ 63)) None) → ⊥
   -- 1 to 1,000 keys, aliases and hits
   pub one_key : CallFits (kv_list_call (codes "n") [] 1)
   pub keys_at_most : CallFits (kv_list_call (codes "n") [] 1000)
@@ -205,12 +212,14 @@ pub record WorkedAsked : Type 0 where
   pub texts_above : (text : List ℕ) → length text ≡ 1048569 → CallFits (search_of (of_cwd (codes "/")) text 0 1) → ⊥
   -- the texts of each call and of each payload
   pub of_start : call_bytes ls_call ≡ 8
-  pub of_end : call_bytes (end_call 7 (pos 1000) (pos 0)) ≡ 0
+  pub of_end : call_bytes (end_call 7 (pos 1000) (pos 0) None) ≡ 0
+  pub of_authored_end : call_bytes (end_call 7 (pos 1000) (pos 0) (Some (codes "me"))) ≡ 2
   pub of_delete : call_bytes (delete_call 7) ≡ 0
   pub of_search : call_bytes (search_of of_all (codes "ls") 3 5) ≡ 2
   pub of_host_search : call_bytes (search_of (of_hostname (codes "h:u")) (codes "ls") 3 5) ≡ 5
   pub of_session_search : call_bytes (search_of (of_session (codes "s1")) (codes "ls") 3 5) ≡ 4
   pub of_kv_set : call_bytes (kv_set_call (codes "n") (codes "ke") (codes "val")) ≡ 6
+  pub of_kv_delete : call_bytes (kv_delete_call (codes "n") (codes "ke")) ≡ 3
   pub of_kv_get : call_bytes (kv_get_call (codes "n") (codes "ke")) ≡ 3
   pub of_kv_list : call_bytes (kv_list_call (codes "n") (codes "ke") 5) ≡ 3
   pub of_alias_set : call_bytes (alias_set_call (codes "gg") (codes "val")) ≡ 5
@@ -220,14 +229,16 @@ pub record WorkedAsked : Type 0 where
   pub of_creation : payload_text_bytes (HistoryCreate ls_ended) ≡ 8
   pub of_deletion : payload_text_bytes (HistoryDelete 7) ≡ 0
   pub of_value : payload_text_bytes (KvSet (codes "n") (codes "ke") (codes "val")) ≡ 6
+  pub of_no_value : payload_text_bytes (KvDelete (codes "n") (codes "ke")) ≡ 3
+  pub of_authored : payload_text_bytes (HistoryCreate authored_ls) ≡ 10
   pub of_alias : payload_text_bytes (AliasSet (codes "gg") (codes "val")) ≡ 5
   pub of_ending : payload_text_bytes (AliasDelete (codes "gg")) ≡ 2
 
 -- a commit that fails
 pub record WorkedDoubt : Type 0 where
   -- in doubt, or lost: the journal is the one before
-  pub in_doubt : (store : KeyedStore) (drawn : List ℕ) → OfExample store → length drawn ≡ 106 → Turn store (ls_entry ∷ []) [] (call_of 2) (end_call first_id (pos 1000) (pos 0)) (read_and_drew second_time drawn) (ls_entry ∷ []) (end_entry store drawn ∷ []) (record { front = 1; answer = refused disk_fault })
-  pub lost : (store : KeyedStore) (drawn : List ℕ) → OfExample store → length drawn ≡ 106 → Turn store (ls_entry ∷ []) [] (call_of 2) (end_call first_id (pos 1000) (pos 0)) (read_and_drew second_time drawn) (ls_entry ∷ []) [] (record { front = 1; answer = refused disk_fault })
+  pub in_doubt : (store : KeyedStore) (drawn : List ℕ) → OfExample store → length drawn ≡ 106 → Turn store (ls_entry ∷ []) [] (call_of 2) (end_call first_id (pos 1000) (pos 0) None) (read_and_drew second_time drawn) (ls_entry ∷ []) (end_entry store drawn ∷ []) (record { front = 1; answer = refused disk_fault })
+  pub lost : (store : KeyedStore) (drawn : List ℕ) → OfExample store → length drawn ≡ 106 → Turn store (ls_entry ∷ []) [] (call_of 2) (end_call first_id (pos 1000) (pos 0) None) (read_and_drew second_time drawn) (ls_entry ∷ []) [] (record { front = 1; answer = refused disk_fault })
   -- what is in doubt isn't shown
   pub not_shown : (store : KeyedStore) (drawn : List ℕ) → Turn store (ls_entry ∷ []) (end_entry store drawn ∷ []) (call_of 3) status_call used_nothing (ls_entry ∷ []) (end_entry store drawn ∷ []) (record { front = 1; answer = places [] })
   -- the next call that writes settles it, even where it is refused itself, and is answered behind it
@@ -239,25 +250,26 @@ pub record WorkedDoubt : Type 0 where
   -- settling may fail itself, and so may the draw
   pub stays_in_doubt : (store : KeyedStore) (drawn : List ℕ) → Turn store (ls_entry ∷ []) (end_entry store drawn ∷ []) (call_of 3) ls_call (read_clock second_time) (ls_entry ∷ []) (end_entry store drawn ∷ []) (record { front = 1; answer = refused disk_fault })
   -- an End may be ready only behind a Start that was in doubt, which is settled then, and may fail there
-  pub undrawn_behind : Turn zeros_store [] (ls_entry ∷ []) (call_of 2) (end_call first_id (pos 1000) (pos 0)) (read_and_failed second_time) (record { caller = record { number = 0; call = 1; settled_for = 1 }; event = Started ls } ∷ []) [] (record { front = 1; answer = refused random_fault })
-  pub short_behind : Turn zeros_store [] (ls_entry ∷ []) (call_of 2) (end_call first_id (pos 1000) (pos 0)) (read_and_drew second_time (replicate 106 0)) (record { caller = record { number = 0; call = 1; settled_for = 1 }; event = Started ls } ∷ []) [] (record { front = 1; answer = refused no_memory })
-  -- no Start is answered before the clock was read
-  pub short_unread : (store : KeyedStore) (after doubt_after : List Entry) (reply : Reply) → Turn store [] [] (call_of 1) ls_call used_nothing after doubt_after reply → ⊥
+  pub undrawn_behind : Turn zeros_store [] (ls_entry ∷ []) (call_of 2) (end_call first_id (pos 1000) (pos 0) None) (read_and_failed second_time) (record { caller = record { number = 0; call = 1; settled_for = 1 }; event = Started ls } ∷ []) [] (record { front = 1; answer = refused random_fault })
+  pub short_behind : Turn zeros_store [] (ls_entry ∷ []) (call_of 2) (end_call first_id (pos 1000) (pos 0) None) (read_and_drew second_time (replicate 106 0)) (record { caller = record { number = 0; call = 1; settled_for = 1 }; event = Started ls } ∷ []) [] (record { front = 1; answer = refused no_memory })
+  -- memory may be wanting while a Start is read, when the clock wasn't read yet; that is all that is answered before it was
+  pub short_unread : (store : KeyedStore) → Turn store [] [] (call_of 1) ls_call used_nothing [] [] (record { front = 0; answer = refused no_memory })
+  pub only_short_unread : (store : KeyedStore) (after doubt_after : List Entry) (reply : Reply) → Turn store [] [] (call_of 1) ls_call used_nothing after doubt_after reply → (after ≡ []) × (doubt_after ≡ []) × (reply.answer ≡ refused no_memory)
   pub not_drawn : (store : KeyedStore) → Turn store [] [] (call_of 1) ls_call (read_and_failed first_time) [] [] (record { front = 0; answer = refused random_fault })
   -- a lost end may come again, in the next call
-  pub again : (store : KeyedStore) (drawn : List ℕ) → OfExample store → length drawn ≡ 106 → Turn store (ls_entry ∷ []) [] (call_of 3) (end_call first_id (pos 1000) (pos 0)) (read_and_drew second_time drawn) (ls_entry ∷ record { caller = call_of 3; event = Local (Some first_id) (end_record store drawn) } ∷ []) [] (record { front = 2; answer = stored 0 })
+  pub again : (store : KeyedStore) (drawn : List ℕ) → OfExample store → length drawn ≡ 106 → Turn store (ls_entry ∷ []) [] (call_of 3) (end_call first_id (pos 1000) (pos 0) None) (read_and_drew second_time drawn) (ls_entry ∷ record { caller = call_of 3; event = Local (Some first_id) (end_record store drawn) } ∷ []) [] (record { front = 2; answer = stored 0 })
   -- memory may be wanting: a read leaves what is in doubt, and a write may have settled it
   pub short_read : (store : KeyedStore) (drawn : List ℕ) → Turn store (ls_entry ∷ []) (end_entry store drawn ∷ []) (call_of 3) status_call used_nothing (ls_entry ∷ []) (end_entry store drawn ∷ []) (record { front = 1; answer = refused no_memory })
   pub short : (store : KeyedStore) (drawn : List ℕ) → Turn store (ls_entry ∷ []) (end_entry store drawn ∷ []) (call_of 3) ls_call (read_clock second_time) (ls_entry ∷ []) (end_entry store drawn ∷ []) (record { front = 1; answer = refused no_memory })
   pub short_settled : (store : KeyedStore) (drawn : List ℕ) → SealsWell store → OfExample store → length drawn ≡ 106 → Turn store (ls_entry ∷ []) (end_entry store drawn ∷ []) (call_of 3) ls_call (read_and_drew first_time ten_bytes) (ls_entry ∷ end_settled store drawn ∷ []) [] (record { front = 2; answer = refused no_memory })
   -- but it has read the clock then, and drawn all bytes or none
-  pub clock_unread : (store : KeyedStore) (journal : List Entry) → UsedSome store journal ls_call used_nothing → ⊥
-  pub nine_drawn : (store : KeyedStore) (journal : List Entry) → UsedSome store journal ls_call (read_and_drew first_time (take 9 ten_bytes)) → ⊥
+  pub clock_unread : (store : KeyedStore) (journal : List Entry) → UsedBeforeFailing store journal ls_call used_nothing → ⊥
+  pub nine_drawn : (store : KeyedStore) (journal : List Entry) → UsedBeforeFailing store journal ls_call (read_and_drew first_time (take 9 ten_bytes)) → ⊥
   -- it doesn't draw before it has settled, nor where it is refused: nothing with the id 7 runs
   pub drawn_in_doubt : (store : KeyedStore) (drawn : List ℕ) → Turn store (ls_entry ∷ []) (end_entry store drawn ∷ []) (call_of 3) ls_call (read_and_drew first_time ten_bytes) (ls_entry ∷ []) (end_entry store drawn ∷ []) (record { front = 1; answer = refused no_memory }) → ⊥
-  pub drawn_unready : (store : KeyedStore) → UsedSome store [] (end_call 7 (pos 0) (pos 0)) (read_and_drew first_time ten_bytes) → ⊥
+  pub drawn_unready : (store : KeyedStore) → UsedBeforeFailing store [] (end_call 7 (pos 0) (pos 0) None) (read_and_drew first_time ten_bytes) → ⊥
   -- no fault is told of a call that appends nothing, where nothing is in doubt
-  pub no_fault : (store : KeyedStore) (after doubt_after : List Entry) (front : ℕ) → Turn store [] [] (call_of 1) (end_call 7 (pos 0) (pos 0)) (read_clock first_time) after doubt_after (record { front = front; answer = refused disk_fault }) → ⊥
+  pub no_fault : (store : KeyedStore) (after doubt_after : List Entry) (front : ℕ) → Turn store [] [] (call_of 1) (end_call 7 (pos 0) (pos 0) None) (read_clock first_time) after doubt_after (record { front = front; answer = refused disk_fault }) → ⊥
 
 -- ---- two records of owner 5 that come in one page, of which the first is in doubt
 

@@ -3,14 +3,19 @@ use Rattle.std.specs.Prelude.{◌≡◌, ℕ, ◌≤◌, List, ◌++◌, length,
 use Rattle.definitions.specs.Step.{Used, used_nothing, read_clock, read_and_drew}
 use Rattle.record_rules.specs.Records.{SealedRecord, Caller, Entry}
 use Rattle.record_rules.specs.Journal.{chain, IsNumbered, Sound}
-use Rattle.view_rules.specs.Views.{OpensByTag}
+use Rattle.view_rules.specs.Changes.{OpensByTag}
 use Rattle.step_rules.specs.Calls.{Call, CallFits, is_read}
 use Rattle.step_rules.specs.Answers.{Refusal, Answer, refused, Reply}
-use Rattle.step_rules.specs.Store.{KeyedStore, SealsWell, HasCommand, HasAlias}
+use Rattle.step_rules.specs.Store.{KeyedStore, SealsWell, HasCommand, HasValue, HasAlias}
+use Rattle.step_rules.specs.Sealing.{Sealing, KeyedStoreHolds}
 use Rattle.step_rules.specs.Step.{Shows, Step}
 use Rattle.step_rules.specs.Turn.{settled, Turn}
 use Rattle.step_rules.specs.PageTurns.{PageAnswer, PageTurn}
 use Rattle.step_rules.specs.ReadTurns.{StoreRead, ReadAnswer, ReadTurn}
+
+-- what contracts cite of the store under a key, whatever seals and opens
+abbrev pub KeyedStoresHold : Type 0
+KeyedStoresHold = (sealing : Sealing) (host : ℕ) (key : List ℕ) → KeyedStoreHolds sealing host key
 
 -- a step from a sound journal leaves a sound journal
 abbrev pub StepKeepsSound : Type 0
@@ -31,9 +36,10 @@ RefusalLeaves = (store : KeyedStore) (journal : List Entry) (caller : Caller) (c
 abbrev pub ReadLeaves : Type 0
 ReadLeaves = (store : KeyedStore) (journal : List Entry) (caller : Caller) (call : Call) (used : Used) (after : List Entry) (answer : Answer) → is_read call ≡ true → Step store journal caller call used after answer → after ≡ journal
 
--- of each id and name it is told whether it is shown, and whatever is asked has an answer
+-- of each id, pair and name it is told whether it is shown, and whatever is asked has an answer
 pub record ViewsAnswer (store : KeyedStore) (journal : List Entry) : Type 0 where
   pub command : (id : ℕ) → HasCommand store journal id ⊎ (HasCommand store journal id → ⊥)
+  pub value : (namespace key : List ℕ) → HasValue store journal namespace key ⊎ (HasValue store journal namespace key → ⊥)
   pub name : (name : List ℕ) → HasAlias store journal name ⊎ (HasAlias store journal name → ⊥)
   pub reads : (call : Call) → is_read call ≡ true → (answer : Answer) × Shows store journal call answer
 

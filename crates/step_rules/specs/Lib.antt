@@ -1,6 +1,7 @@
 pub mod Calls
 pub mod Answers
 pub mod Store
+pub mod Sealing
 pub mod Step
 pub mod Turn
 pub mod PageTurns

@@ -2,10 +2,11 @@
 use Rattle.std.specs.Prelude.{◌≡◌, ℕ, ◌+◌, ◌≤◌, List, [], length}
 use Rattle.definitions.specs.Journal.{HistoryRecord}
 use Rattle.definitions.specs.Search.{hit_bytes}
-use Rattle.payload_rules.specs.Payloads.{Payload, HistoryCreate, HistoryDelete, KvSet, AliasSet, AliasDelete, tag_of, payload_version}
+use Rattle.payload_rules.specs.Payloads.{Payload, HistoryCreate, HistoryDelete, KvSet, KvDelete, AliasSet, AliasDelete, tag_of, version_text, payload_version}
 use Rattle.record_rules.specs.Limits.{most_page_weight}
 use Rattle.record_rules.specs.Records.{SealedRecord, Entry, record_weight}
-use Rattle.view_rules.specs.Views.{Opening, viewed, ShowsHistory, ShowsKv, ShowsAlias}
+use Rattle.view_rules.specs.Changes.{Change, viewed, Opening, changes_of}
+use Rattle.view_rules.specs.Views.{ShowsHistory, ShowsKv, ShowsAlias}
 use Rattle.step_rules.specs.Calls.{most_call_bytes}
 
 -- what a record says in the open, to which its sealed text is bound
@@ -40,26 +41,31 @@ abbrev pub payload_text_bytes : Payload → ℕ
 payload_text_bytes (HistoryCreate h) = hit_bytes h
 payload_text_bytes (HistoryDelete id) = 0
 payload_text_bytes (KvSet namespace key value) = length namespace + length key + length value
+payload_text_bytes (KvDelete namespace key) = length namespace + length key
 payload_text_bytes (AliasSet name value) = length name + length value
 payload_text_bytes (AliasDelete name) = length name
 
 -- ---- what is there
 
+-- the changes that owner 0's records hold, of those that open under the key
+abbrev pub shown_changes : KeyedStore → List Entry → List Change
+shown_changes store journal = changes_of store.opens (viewed journal)
+
 -- a command with this id is shown
 abbrev pub HasCommand : KeyedStore → List Entry → ℕ → Type 0
-HasCommand store journal id = (h : HistoryRecord) × ShowsHistory store.opens (viewed journal) h × (h.id ≡ id)
+HasCommand store journal id = (h : HistoryRecord) × ShowsHistory (shown_changes store journal) h × (h.id ≡ id)
 
 -- the key of the namespace has a value
 abbrev pub HasValue : KeyedStore → List Entry → (namespace key : List ℕ) → Type 0
-HasValue store journal namespace key = (value : List ℕ) × ShowsKv store.opens (viewed journal) namespace key value
+HasValue store journal namespace key = (value : List ℕ) × ShowsKv (shown_changes store journal) namespace key value
 
 -- the name stands for a value
 abbrev pub HasAlias : KeyedStore → List Entry → (name : List ℕ) → Type 0
-HasAlias store journal name = (value : List ℕ) × ShowsAlias store.opens (viewed journal) name value
+HasAlias store journal name = (value : List ℕ) × ShowsAlias (shown_changes store journal) name value
 
--- A record of the payload's tag and of the one version weighs what its payload tells, whatever its id, idx, host, time and 96
+-- A record of the payload's tag and version weighs what its payload tells, whatever its id, idx, host, time and 96
 -- random bytes. With the texts of one call it is no heavier than a record may be.
 pub record SealsWell (store : KeyedStore) : Type 0 where
-  pub weighs : (head : Head) (payload : Payload) (now : ℕ) (random : List ℕ) → head.tag ≡ tag_of payload → head.version ≡ payload_version → length random ≡ 96
+  pub weighs : (head : Head) (payload : Payload) (now : ℕ) (random : List ℕ) → head.tag ≡ tag_of payload → head.version ≡ version_text (payload_version payload) → length random ≡ 96
       → record_weight (sealed_record head now (store.seal head payload random)) ≡ store.weight_of payload
   pub light : (payload : Payload) → payload_text_bytes payload ≤ most_call_bytes → store.weight_of payload ≤ most_page_weight

@@ -34,15 +34,16 @@ pub record TurnLeaves (journal doubt after doubt_after : List Entry) (reply : Re
 
 -- What a writing call may have used of clock and random bytes where it fails at this journal: it has read the clock, and it has drawn only if
 -- it was ready there.
-pub data UsedSome (store : KeyedStore) (journal : List Entry) (call : Call) (used : Used) : Type 0 where
-  used_clock : (now : ℕ) → used ≡ read_clock now → UsedSome store journal call used
-  used_bytes : (now : ℕ) (draft : Draft) (drawn : List ℕ) → Ready store journal call draft → length drawn ≡ draws draft → used ≡ read_and_drew now drawn → UsedSome store journal call used
+pub data UsedBeforeFailing (store : KeyedStore) (journal : List Entry) (call : Call) (used : Used) : Type 0 where
+  used_clock : (now : ℕ) → used ≡ read_clock now → UsedBeforeFailing store journal call used
+  used_bytes : (now : ℕ) (draft : Draft) (drawn : List ℕ) → Ready store journal call draft → length drawn ≡ draws draft → used ≡ read_and_drew now drawn → UsedBeforeFailing store journal call used
 
 -- From the journal with the commit in doubt, which is empty where there is none, the call may use so much, leave these and be answered so.
 pub data Turn (store : KeyedStore) (journal doubt : List Entry) (caller : Caller) (call : Call) (used : Used) (after doubt_after : List Entry) (reply : Reply) : Type 0 where
   -- a read doesn't settle
   read_turn : (answer : Answer) → used ≡ used_nothing → Shows store journal call answer → TurnLeaves journal doubt after doubt_after reply answer → Turn store journal doubt caller call used after doubt_after reply
-  short_read_turn : is_read call ≡ true → used ≡ used_nothing → TurnLeaves journal doubt after doubt_after reply (refused no_memory) → Turn store journal doubt caller call used after doubt_after reply
+  -- memory was wanting while the call was read, or for what a read shows: the clock wasn't read
+  short_unread_turn : used ≡ used_nothing → TurnLeaves journal doubt after doubt_after reply (refused no_memory) → Turn store journal doubt caller call used after doubt_after reply
   -- settling failed
   unsettled_turn : (now : ℕ) → is_read call ≡ false → doubt ≢ [] → used ≡ read_clock now → TurnLeaves journal doubt after doubt_after reply (refused disk_fault) → Turn store journal doubt caller call used after doubt_after reply
   -- what was in doubt is settled, and the call is a step from there
@@ -52,6 +53,6 @@ pub data Turn (store : KeyedStore) (journal doubt : List Entry) (caller : Caller
   -- the commit failed: it is lost, or in doubt
   uncommitted_turn : (batch left : List Entry) (answer : Answer) → is_read call ≡ false → is_refusal answer ≡ false → Step store (settled journal doubt) caller call used (settled journal doubt ++ batch) answer
       → (left ≡ []) ⊎ (left ≡ batch) → TurnLeaves (settled journal doubt) left after doubt_after reply (refused disk_fault) → Turn store journal doubt caller call used after doubt_after reply
-  -- memory was wanting, before settling, when nothing is drawn yet, or after it
+  -- memory was wanting behind the clock, before settling, when nothing is drawn yet, or after it
   short_turn : (now : ℕ) → is_read call ≡ false → used ≡ read_clock now → TurnLeaves journal doubt after doubt_after reply (refused no_memory) → Turn store journal doubt caller call used after doubt_after reply
-  short_settled_turn : is_read call ≡ false → UsedSome store (settled journal doubt) call used → TurnLeaves (settled journal doubt) [] after doubt_after reply (refused no_memory) → Turn store journal doubt caller call used after doubt_after reply
+  short_settled_turn : is_read call ≡ false → UsedBeforeFailing store (settled journal doubt) call used → TurnLeaves (settled journal doubt) [] after doubt_after reply (refused no_memory) → Turn store journal doubt caller call used after doubt_after reply

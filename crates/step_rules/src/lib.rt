@@ -2,15 +2,22 @@
 //! turn, which is a step on a disk that may fail; pages that are taken in and what is read beside a
 //! session, in turns of their own; and the laws that hold of these words alone.
 //!
-//! A call is refused, or appends one entry, or shows something. What the key of a store seals and
-//! opens is a parameter. The words for journals are those of `record_rules`, those for what records
+//! A call is refused, or appends one entry, or shows something. What seals and
+//! opens bytes under a key is a parameter, `Sealing`, with what has to hold of it. The words for journals are those of `record_rules`, those for what records
 //! hold and show those of `payload_rules` and `view_rules`.
 //!
 //! Each function has an empty body, and its contract is the law that its name says.
 #![tactic(auto)]
 
-ghost use Rattle.step_rules.specs.Laws.{StepKeepsSound, StepNumbersChains, StepAddsOne, RefusalLeaves, ReadLeaves, StepHasOutcome, WriteHasOneOutcome, StepHasOneOutcome, TurnKeepsSound, TurnTellsFront, TurnOnlyAdds, ReadCallStays, PageTurnKeepsSound, PageTurnOnlyAdds, ReadTurnLeaves};
+ghost use Rattle.step_rules.specs.Laws.{KeyedStoresHold, StepKeepsSound, StepNumbersChains, StepAddsOne, RefusalLeaves, ReadLeaves, StepHasOutcome, WriteHasOneOutcome, StepHasOneOutcome, TurnKeepsSound, TurnTellsFront, TurnOnlyAdds, ReadCallStays, PageTurnKeepsSound, PageTurnOnlyAdds, ReadTurnLeaves};
 ghost use Rattle.step_rules.specs.Examples.{WorkedStore, WorkedCommand, WorkedTexts, WorkedViews, WorkedDrafts, WorkedRun, WorkedAsked, WorkedDoubt, WorkedPageTurns, WorkedReadTurns};
+
+/// The store of a host under a key is one value, made of what seals and opens bytes. It seals well, opens
+/// what it sealed, opens a record to one payload at most, and to none whose texts weigh more than the
+/// record; and the changes that it shows are those of the records that open.
+pub fn keyed_store_holds()
+    ensures { KeyedStoresHold }
+{}
 
 /// A step from a sound journal leaves a sound journal.
 pub fn step_keeps_sound()

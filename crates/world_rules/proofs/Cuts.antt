@@ -1,4 +1,4 @@
--- Fronts of a chain, and pieces cut from it, as the chain grows.
+-- Pieces cut from a chain, as the chain grows.
 use Rattle.std.proofs.Common.{◌≡◌, ℕ, suc, ◌+◌, Bool, true, false, cond, inl, inr, List, [], ◌∷◌, ◌++◌, length, filter, take, drop, min, Some, refl, sym, ◌∙◌, ap, arith, append_assoc}
 use Rattle.std.specs.Prelude.{slice_get}
 use Rattle.std.proofs.lemmas.List.{append-nil, take-append-drop}
@@ -6,32 +6,13 @@ use Rattle.std.proofs.Math.Seq.{take-append_seam, drop-append_seam}
 use Rattle.record_rules.specs.Limits.{most_page_records}
 use Rattle.record_rules.specs.Records.{SealedRecord, Entry}
 use Rattle.record_rules.specs.Journal.{own_events, records_of, in_place, chain, IsNumbered}
-use Rattle.record_rules.specs.Growth.{GoOn, IsFront}
+use Rattle.definitions.specs.Prefixes.{IsPrefix}
+use Rattle.definitions.proofs.Prefixes.{prefix-rest, prefix-of, prefix-then}
+use Rattle.record_rules.specs.Growth.{GoOn}
 use Rattle.record_rules.specs.Answers.{page}
 use Rattle.record_rules.proofs.Members.{Has}
 use Rattle.record_rules.proofs.Pages.{page_is_longest}
 use Rattle.record_rules.proofs.Spots.{in_place-true}
-
--- ---- fronts
-
-pub front_rest : (xs ys : List SealedRecord) → IsFront xs ys → xs ++ drop (length xs) ys ≡ ys
-front_rest xs ys front = ap (λ zs. zs ++ drop (length xs) ys) front ∙ take-append-drop (length xs) ys
-
-pub front_of : (xs rest ys : List SealedRecord) → xs ++ rest ≡ ys → IsFront xs ys
-front_of xs rest ys is = sym (take-append_seam xs rest) ∙ ap (take (length xs)) is
-
-pub front_itself : (xs : List SealedRecord) → IsFront xs xs
-front_itself xs = front_of xs [] xs (append-nil xs)
-
-pub front_grows : (xs ys more : List SealedRecord) → IsFront xs ys → IsFront xs (ys ++ more)
-front_grows xs ys more front = front_of xs (drop (length xs) ys ++ more) (ys ++ more) (sym (append_assoc xs (drop (length xs) ys) more) ∙ ap (λ zs. zs ++ more) (front_rest xs ys front))
-
-front_trans : (xs ys zs : List SealedRecord) → IsFront xs ys → IsFront ys zs → IsFront xs zs
-front_trans xs ys zs front next = front_of xs (drop (length xs) ys ++ drop (length ys) zs) zs (sym (append_assoc xs (drop (length xs) ys) (drop (length ys) zs)) ∙ ap (λ ws. ws ++ drop (length ys) zs) (front_rest xs ys front) ∙ front_rest ys zs next)
-
--- two fronts of one length are one
-pub fronts_alike : (xs ys zs : List SealedRecord) → IsFront xs zs → IsFront ys zs → length xs ≡ length ys → xs ≡ ys
-fronts_alike xs ys zs front other same = front ∙ ap (λ n. take n zs) same ∙ sym other
 
 -- ---- pieces
 
@@ -54,25 +35,25 @@ cut_is_slice records origin cut =
     ap (λ o. take (length records) (drop (length cut.before) o)) (sym cut.is) ∙ ap (take (length records)) (drop-append_seam cut.before (records ++ cut.rest)) ∙ take-append_seam records cut.rest
 
 -- a front of what is left of a front
-cut_in : (front origin records : List SealedRecord) (start : ℕ) → IsFront front origin → IsFront records (drop start front) → IsCut records origin
+cut_in : (front origin records : List SealedRecord) (start : ℕ) → IsPrefix front origin → IsPrefix records (drop start front) → IsCut records origin
 cut_in front origin records start is_front from_start =
     let behind = drop (length records) (drop start front) in
     let beyond = drop (length front) origin in
     record {
       before = take start front;
       rest = behind ++ beyond;
-      is = ap (λ zs. take start front ++ zs) (sym (append_assoc records behind beyond) ∙ ap (λ zs. zs ++ beyond) (front_rest records (drop start front) from_start)) ∙ sym (append_assoc (take start front) (drop start front) beyond) ∙ ap (λ zs. zs ++ beyond) (take-append-drop start front) ∙ front_rest front origin is_front;
+      is = ap (λ zs. take start front ++ zs) (sym (append_assoc records behind beyond) ∙ ap (λ zs. zs ++ beyond) (prefix-rest records (drop start front) from_start)) ∙ sym (append_assoc (take start front) (drop start front) beyond) ∙ ap (λ zs. zs ++ beyond) (take-append-drop start front) ∙ prefix-rest front origin is_front;
     }
 
 -- a page of a chain that is a front of an origin is cut from the origin
-pub page_is_cut : (journal : List Entry) (owner host : ℕ) (tag : List ℕ) (start count : ℕ) (origin : List SealedRecord) → IsFront (chain journal owner host tag) origin → IsCut (page journal owner host tag start count) origin
+pub page_is_cut : (journal : List Entry) (owner host : ℕ) (tag : List ℕ) (start count : ℕ) (origin : List SealedRecord) → IsPrefix (chain journal owner host tag) origin → IsCut (page journal owner host tag start count) origin
 page_is_cut journal owner host tag start count origin front =
     let left = drop start (chain journal owner host tag) in
     let next = take (min count most_page_records) left in
     let given = page journal owner host tag start count in
-    let first : IsFront given next = (page_is_longest journal owner host tag start count).is_front in
-    let within : IsFront next left = front_of next (drop (min count most_page_records) left) left (take-append-drop (min count most_page_records) left) in
-    cut_in (chain journal owner host tag) origin given start front (front_trans given next left first within)
+    let first : IsPrefix given next = (page_is_longest journal owner host tag start count).is_front in
+    let within : IsPrefix next left = prefix-of next (drop (min count most_page_records) left) left (take-append-drop (min count most_page_records) left) in
+    cut_in (chain journal owner host tag) origin given start front (prefix-then given next left first within)
 
 -- ---- numbered chains
 

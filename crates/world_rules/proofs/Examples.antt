@@ -4,7 +4,7 @@ use Rattle.std.specs.Prelude.{codes}
 use Rattle.std.proofs.lemmas.Bool.{true≢false}
 use Rattle.std.proofs.lemmas.Option.{none-some, same_Some}
 use Rattle.record_rules.specs.Records.{SealedRecord, Entry, Started}
-use Rattle.record_rules.specs.Journal.{chain, fits, Sound}
+use Rattle.record_rules.specs.Journal.{chain, first_limit_passed, Sound}
 use Rattle.record_rules.specs.Growth.{grow, grown}
 use Rattle.record_rules.specs.Answers.{page}
 use Rattle.record_rules.specs.Examples.{caller, started_ls, entry_of}
@@ -13,7 +13,7 @@ use Rattle.world_rules.specs.World.{host_at, World, empty_world, with_journal, w
 use Rattle.world_rules.specs.Examples.{command_record, made_entry, WorkedWorld, WorkedTwins}
 
 -- a record that was made here may follow where it is next and there is room
-made_follows : (journal : List Entry) (host idx id : ℕ) → Sound journal host → idx ≡ length (chain journal 0 host (codes "history")) → fits journal 0 137 (Some (record { host = host; tag = codes "history" })) ≡ None → Sound (journal ++ made_entry host idx id ∷ []) host
+made_follows : (journal : List Entry) (host idx id : ℕ) → Sound journal host → idx ≡ length (chain journal 0 host (codes "history")) → first_limit_passed journal 0 137 (Some (record { host = host; tag = codes "history" })) ≡ None → Sound (journal ++ made_entry host idx id ∷ []) host
 made_follows journal host idx id sound next room = Sound-push journal (made_entry host idx id) host sound (record {
   numbered = next;
   made_here = refl;

@@ -8,17 +8,19 @@ use Rattle.std.proofs.lemmas.Option.{none-some, same_Some}
 use Rattle.std.proofs.lemmas.Slice.Eq.{bytes_eq-Decides}
 use Rattle.record_rules.specs.Records.{SealedRecord, Caller, Entry}
 use Rattle.record_rules.specs.Journal.{chain, count_at, Sound}
-use Rattle.record_rules.specs.Growth.{PageRefusal, PageForked, GoOn, IsFront, grow, grown}
+use Rattle.definitions.specs.Prefixes.{IsPrefix}
+use Rattle.record_rules.specs.Growth.{PageRefusal, PageForked, GoOn, grow, grown}
 use Rattle.record_rules.specs.Answers.{page}
 use Rattle.record_rules.proofs.Growth.{growth_stays_sound}
 use Rattle.record_rules.proofs.Options.{slice_get_push}
 use Rattle.record_rules.proofs.Origins.{slice_never_forks, slice_keeps_front, slice_leaves_other_chains}
 use Rattle.record_rules.proofs.Soundness.{empty_sound}
 use Rattle.record_rules.proofs.Status.{status_counts}
-use Rattle.view_rules.proofs.Chains.{chains_make_views}
+use Rattle.view_rules.proofs.Sets.{chains_make_views}
 use Rattle.world_rules.specs.World.{host_at, HostsDiffer, IsNoHost, World, empty_world, with_journal, with_page, WorldEvent, Append, Send, Deliver, Crash, Cut, Appends, Sends, Delivers, Happens, Leads, Reach, AppendsOwn, MakesOwn}
 use Rattle.world_rules.specs.Laws.{NodesAreSound, ChainsAreFronts, NoStrangeChains, NoForks, StatusTellsChains, StatusTellsViews}
-use Rattle.world_rules.proofs.Cuts.{front_itself, front_grows, fronts_alike, IsCut, cut_grows, cut_is_slice, page_is_cut, chain_goes_on}
+use Rattle.world_rules.proofs.Cuts.{IsCut, cut_grows, cut_is_slice, page_is_cut, chain_goes_on}
+use Rattle.definitions.proofs.Prefixes.{prefix-itself, prefix-grows, prefixes-alike}
 use Rattle.world_rules.proofs.Batches.{chain_append, own_leaves_others}
 
 -- the records were cut from a chain at its own host's node
@@ -58,20 +60,20 @@ module _ (hosts : List ℕ) (w : World) (holds : Holds hosts w) (n : ℕ) (batch
   goes_on_by o host tag =
       at_each w n (w.journal n ++ batch) (λ m journal. (more : List SealedRecord) × (chain journal 0 host tag ≡ chain (w.journal m) 0 host tag ++ more)) (chain batch 0 host tag, chain_append (w.journal n) batch 0 host tag) (λ m differ. ([], sym (append-nil (chain (w.journal m) 0 host tag)))) o
 
-  still_front : (xs : List SealedRecord) (o host : ℕ) (tag : List ℕ) → IsFront xs (chain (w.journal o) 0 host tag) → IsFront xs (chain ((with_journal w n (w.journal n ++ batch)).journal o) 0 host tag)
+  still_front : (xs : List SealedRecord) (o host : ℕ) (tag : List ℕ) → IsPrefix xs (chain (w.journal o) 0 host tag) → IsPrefix xs (chain ((with_journal w n (w.journal n ++ batch)).journal o) 0 host tag)
   still_front xs o host tag front =
       let more = goes_on_by o host tag in
-      subst (IsFront xs) (sym more.1) (front_grows xs (chain (w.journal o) 0 host tag) more.0 front)
+      subst (IsPrefix xs) (sym more.1) (prefix-grows xs (chain (w.journal o) 0 host tag) more.0 front)
 
-  pub batch_holds : ((host : ℕ) → host_at hosts n ≡ Some host → Sound (w.journal n ++ batch) host) → ((o host : ℕ) (tag : List ℕ) → host_at hosts o ≡ Some host → o ≢ n → IsFront (chain (w.journal n ++ batch) 0 host tag) (chain (w.journal o) 0 host tag)) → ((host : ℕ) (tag : List ℕ) → IsNoHost hosts host → chain (w.journal n ++ batch) 0 host tag ≡ []) → Holds hosts (with_journal w n (w.journal n ++ batch))
+  pub batch_holds : ((host : ℕ) → host_at hosts n ≡ Some host → Sound (w.journal n ++ batch) host) → ((o host : ℕ) (tag : List ℕ) → host_at hosts o ≡ Some host → o ≢ n → IsPrefix (chain (w.journal n ++ batch) 0 host tag) (chain (w.journal o) 0 host tag)) → ((host : ℕ) (tag : List ℕ) → IsNoHost hosts host → chain (w.journal n ++ batch) 0 host tag ≡ []) → Holds hosts (with_journal w n (w.journal n ++ batch))
   batch_holds sound fronts strangers =
       let new = with_journal w n (w.journal n ++ batch) in
       record {
         sound = at_each w n (w.journal n ++ batch) (λ m journal. (host : ℕ) → host_at hosts m ≡ Some host → Sound journal host) sound (λ m differ. holds.sound m);
         fronts = λ node o host tag at.
-            at_each w n (w.journal n ++ batch) (λ m journal. IsFront (chain journal 0 host tag) (chain (new.journal o) 0 host tag))
-            (at_each w n (w.journal n ++ batch) (λ m journal. host_at hosts m ≡ Some host → IsFront (chain (w.journal n ++ batch) 0 host tag) (chain journal 0 host tag))
-            (λ here. front_itself (chain (w.journal n ++ batch) 0 host tag))
+            at_each w n (w.journal n ++ batch) (λ m journal. IsPrefix (chain journal 0 host tag) (chain (new.journal o) 0 host tag))
+            (at_each w n (w.journal n ++ batch) (λ m journal. host_at hosts m ≡ Some host → IsPrefix (chain (w.journal n ++ batch) 0 host tag) (chain journal 0 host tag))
+            (λ here. prefix-itself (chain (w.journal n ++ batch) 0 host tag))
             (λ m differ here. fronts m host tag here differ)
             o at)
             (λ m differ. still_front (chain (w.journal m) 0 host tag) o host tag (holds.fronts m o host tag at))
@@ -95,7 +97,7 @@ same_holds hosts w holds n =
     let nothing : w.journal n ++ [] ≡ w.journal n = append-nil (w.journal n) in
     subst (λ journal. Holds hosts (with_journal w n journal)) nothing (batch_holds hosts w holds n []
     (λ host at. subst (λ journal. Sound journal host) (sym nothing) (holds.sound n host at))
-    (λ o host tag at differ. subst (λ journal. IsFront (chain journal 0 host tag) (chain (w.journal o) 0 host tag)) (sym nothing) (holds.fronts n o host tag at))
+    (λ o host tag at differ. subst (λ journal. IsPrefix (chain journal 0 host tag) (chain (w.journal o) 0 host tag)) (sym nothing) (holds.fronts n o host tag at))
     (λ host tag no. ap (λ journal. chain journal 0 host tag) nothing ∙ holds.strangers n host tag no))
 
 -- ---- a step
@@ -109,13 +111,13 @@ append_holds step makes hosts w node asked new apart holds appends =
     let others : (other : ℕ) (tag : List ℕ) → host ≢ other → chain (w.journal node ++ batch) 0 other tag ≡ chain (w.journal node) 0 other tag = own_leaves_others host (w.journal node) batch appends.after own in
     subst (Holds hosts) (sym (appends.becomes ∙ ap (with_journal w node) own.behind)) (batch_holds hosts w holds node batch
     (λ other at. subst (λ journal. Sound journal other) own.behind (subst (Sound appends.after) (same_Some host other (sym appends.at_host ∙ at)) own.sound))
-    (λ o other tag at differ. subst (λ xs. IsFront xs (chain (w.journal o) 0 other tag)) (sym (others other tag (λ same. differ (apart o node other at (appends.at_host ∙ ap Some same))))) (holds.fronts node o other tag at))
+    (λ o other tag at differ. subst (λ xs. IsPrefix xs (chain (w.journal o) 0 other tag)) (sym (others other tag (λ same. differ (apart o node other at (appends.at_host ∙ ap Some same))))) (holds.fronts node o other tag at))
     (λ other tag no. others other tag (λ same. no node (appends.at_host ∙ ap Some same)) ∙ holds.strangers node other tag no))
 
 -- ---- a page that comes
 
-pub same_place : (host other : ℕ) (tag other_tag : List ℕ) → ((host ≡ other) × (tag ≡ other_tag)) ⊎ ((host ≢ other) ⊎ (tag ≢ other_tag))
-same_place host other tag other_tag =
+pub same_or_other : (host other : ℕ) (tag other_tag : List ℕ) → ((host ≡ other) × (tag ≡ other_tag)) ⊎ ((host ≢ other) ⊎ (tag ≢ other_tag))
+same_or_other host other tag other_tag =
     elim (cases_eq host other) [
       | inl same ↦ elim (cases_Bool (bytes_eq tag other_tag)) [
         | inl tags ↦ inl (same, (bytes_eq-Decides tag other_tag).0 tags)
@@ -138,16 +140,16 @@ module _ (hosts : List ℕ) (w : World) (holds : Holds hosts w) (node : ℕ) (ca
     other_chain : (host : ℕ) (tag : List ℕ) → (from.host ≢ host) ⊎ (from.tag ≢ tag) → chain (w.journal node ++ batch) 0 host tag ≡ chain (w.journal node) 0 host tag
     other_chain host tag differ = slice_leaves_other_chains (w.journal node) caller 0 from.host from.tag (chain (w.journal from.origin) 0 from.host from.tag) (length from.cut.before) (length records) host tag batch from_goes_on differ (grows_as_slice ∙ taken)
 
-    own_chain : IsFront (chain (w.journal node ++ batch) 0 from.host from.tag) (chain (w.journal from.origin) 0 from.host from.tag)
+    own_chain : IsPrefix (chain (w.journal node ++ batch) 0 from.host from.tag) (chain (w.journal from.origin) 0 from.host from.tag)
     own_chain = slice_keeps_front (w.journal node) of_host caller 0 from.host from.tag (chain (w.journal from.origin) 0 from.host from.tag) (length from.cut.before) (length records) batch (holds.sound node of_host at_node) from_goes_on (holds.fronts node from.origin from.host from.tag from.at_host) (grows_as_slice ∙ taken)
 
-    front_after : (o host : ℕ) (tag : List ℕ) → host_at hosts o ≡ Some host → IsFront (chain (w.journal node ++ batch) 0 host tag) (chain (w.journal o) 0 host tag)
+    front_after : (o host : ℕ) (tag : List ℕ) → host_at hosts o ≡ Some host → IsPrefix (chain (w.journal node ++ batch) 0 host tag) (chain (w.journal o) 0 host tag)
     front_after o host tag at =
-        elim (same_place from.host host from.tag tag) [
+        elim (same_or_other from.host host from.tag tag) [
           | inl same ↦
               let origin : from.origin ≡ o = apart from.origin o host (from.at_host ∙ ap Some same.0) at in
-              subst (λ k. IsFront (chain (w.journal node ++ batch) 0 host tag) (chain (w.journal k) 0 host tag)) origin (subst (λ t. IsFront (chain (w.journal node ++ batch) 0 host t) (chain (w.journal from.origin) 0 host t)) same.1 (subst (λ h. IsFront (chain (w.journal node ++ batch) 0 h from.tag) (chain (w.journal from.origin) 0 h from.tag)) same.0 own_chain))
-          | inr differ ↦ subst (λ xs. IsFront xs (chain (w.journal o) 0 host tag)) (sym (other_chain host tag differ)) (holds.fronts node o host tag at)
+              subst (λ k. IsPrefix (chain (w.journal node ++ batch) 0 host tag) (chain (w.journal k) 0 host tag)) origin (subst (λ t. IsPrefix (chain (w.journal node ++ batch) 0 host t) (chain (w.journal from.origin) 0 host t)) same.1 (subst (λ h. IsPrefix (chain (w.journal node ++ batch) 0 h from.tag) (chain (w.journal from.origin) 0 h from.tag)) same.0 own_chain))
+          | inr differ ↦ subst (λ xs. IsPrefix xs (chain (w.journal o) 0 host tag)) (sym (other_chain host tag differ)) (holds.fronts node o host tag at)
         ]
 
     taken_holds : Holds hosts (with_journal w node (w.journal node ++ batch))
@@ -196,7 +198,7 @@ page_was_cut hosts w holds node host tag start count =
         host = 0;
         tag = tag;
         at_host = refl;
-        cut = cut_grows (page (w.journal node) 0 host tag start count) [] (chain (w.journal 0) 0 0 tag) (page_is_cut (w.journal node) 0 host tag start count [] (subst (λ xs. IsFront xs []) (sym (holds.strangers node host tag none)) refl));
+        cut = cut_grows (page (w.journal node) 0 host tag start count) [] (chain (w.journal 0) 0 0 tag) (page_is_cut (w.journal node) 0 host tag start count [] (subst (λ xs. IsPrefix xs []) (sym (holds.strangers node host tag none)) refl));
       }
     ]
 
@@ -251,7 +253,7 @@ pub status_tells_chains : (hosts : List ℕ) (w : World) → Holds hosts w → S
 status_tells_chains hosts w holds node other same host tag =
     let lengths : length (chain (w.journal node) 0 host tag) ≡ length (chain (w.journal other) 0 host tag) = sym (status_counts (w.journal node) 0 host tag) ∙ ap (λ counts. count_at counts host tag) same ∙ status_counts (w.journal other) 0 host tag in
     elim (find_place (0 ∷ hosts) host) [
-      | inl found ↦ fronts_alike (chain (w.journal node) 0 host tag) (chain (w.journal other) 0 host tag) (chain (w.journal found.0) 0 host tag) (holds.fronts node found.0 host tag found.1) (holds.fronts other found.0 host tag found.1) lengths
+      | inl found ↦ prefixes-alike (chain (w.journal node) 0 host tag) (chain (w.journal other) 0 host tag) (chain (w.journal found.0) 0 host tag) (holds.fronts node found.0 host tag found.1) (holds.fronts other found.0 host tag found.1) lengths
       | inr none ↦ holds.strangers node host tag none ∙ sym (holds.strangers other host tag none)
     ]
 

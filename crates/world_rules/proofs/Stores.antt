@@ -29,7 +29,7 @@ draft_is_made store journal (record_draft closes payload) now drawn = tt
 
 step_made : (store : KeyedStore) (journal : List Entry) (caller : Caller) (call : Call) (used : Used) (after : List Entry) (answer : Answer) → Step store journal caller call used after answer → Made journal after
 step_made store journal caller call used after answer (long_step now long used_is is_long refuses) = nothing_made journal after refuses.stays
-step_made store journal caller call used after answer (unknown_step now refusal used_is unknown refuses) = nothing_made journal after refuses.stays
+step_made store journal caller call used after answer (unknown_step now refusal used_is _ unknown refuses) = nothing_made journal after refuses.stays
 step_made store journal caller call used after answer (full_step now draft passed used_is short drafts full refuses) = nothing_made journal after refuses.stays
 step_made store journal caller call used after answer (taken_step now drawn draft used_is drew ready taken refuses) = nothing_made journal after refuses.stays
 step_made store journal caller call used after answer (append_step now drawn draft used_is drew ready free after_is answer_is) = record {

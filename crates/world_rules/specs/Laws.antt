@@ -2,8 +2,9 @@
 use Rattle.std.specs.Prelude.{◌≡◌, ℕ, List, [], Some, Err, slice_get}
 use Rattle.record_rules.specs.Records.{SealedRecord, Caller, Entry}
 use Rattle.record_rules.specs.Journal.{chain, status, Sound}
-use Rattle.record_rules.specs.Growth.{PageForked, IsFront, grow}
-use Rattle.view_rules.specs.Views.{Opening, viewed}
+use Rattle.definitions.specs.Prefixes.{IsPrefix}
+use Rattle.record_rules.specs.Growth.{PageForked, grow}
+use Rattle.view_rules.specs.Changes.{Opening, viewed, changes_of}
 use Rattle.view_rules.specs.Laws.{SameViews}
 use Rattle.world_rules.specs.World.{World, WorldEvent, host_at, HostsDiffer, IsNoHost, AppendsOwn, Reach}
 
@@ -17,7 +18,7 @@ NodesAreSound hosts w = (node host : ℕ) → host_at hosts node ≡ Some host �
 
 -- each chain of each node is a front of that chain at its own host's node
 abbrev pub ChainsAreFronts : List ℕ → World → Type 0
-ChainsAreFronts hosts w = (node origin host : ℕ) (tag : List ℕ) → host_at hosts origin ≡ Some host → IsFront (chain (w.journal node) 0 host tag) (chain (w.journal origin) 0 host tag)
+ChainsAreFronts hosts w = (node origin host : ℕ) (tag : List ℕ) → host_at hosts origin ≡ Some host → IsPrefix (chain (w.journal node) 0 host tag) (chain (w.journal origin) 0 host tag)
 
 -- no node has a chain of a host that is no node's
 abbrev pub NoStrangeChains : List ℕ → World → Type 0
@@ -33,4 +34,4 @@ StatusTellsChains hosts w = (node other : ℕ) → status (w.journal node) 0 ≡
 
 -- and equal views, whatever opening a record gives: the same commands, values and aliases, and the same answers of searches and lists
 abbrev pub StatusTellsViews : List ℕ → World → Type 0
-StatusTellsViews hosts w = (opens : Opening) (node other : ℕ) → status (w.journal node) 0 ≡ status (w.journal other) 0 → SameViews opens (viewed (w.journal node)) (viewed (w.journal other))
+StatusTellsViews hosts w = (opening : Opening) (node other : ℕ) → status (w.journal node) 0 ≡ status (w.journal other) 0 → SameViews (changes_of opening (viewed (w.journal node))) (changes_of opening (viewed (w.journal other)))

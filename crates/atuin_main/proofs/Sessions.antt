@@ -11,7 +11,7 @@ use Rattle.definitions.specs.Step.{Used, UsedFits, used_nothing, then_used}
 use Rattle.definitions.specs.Runs.{Run}
 use Rattle.definitions.proofs.Runs.{Run-nothing, Run-more, UsedFits-nothing, UsedFits-then}
 use Rattle.definitions.proofs.Frames.{frames-more}
-use Rattle.at_edge.specs.Counts.{RoseBy}
+use Rattle.definitions.specs.Counts.{RoseBy}
 use Rattle.at_edge.specs.Taking.{SourceSeen, Gave}
 use Rattle.at_edge.specs.Writing.{SinkSeen, Holds, Stopped}
 use Rattle.at_edge.specs.Drawing.{EntropySeen, Drew}
@@ -19,7 +19,7 @@ use Rattle.at_edge.specs.Telling.{ClockSeen, Told}
 use Rattle.at_edge.specs.declared.ending.Served.{Served}
 use Rattle.at_edge.specs.declared.ending.SessionFail.{SessionFail}
 use Rattle.at_edge.specs.declared.ending.SessionFail.TheVariants as fails
-use Rattle.at_edge.proofs.CountLaws.{RoseBy-nothing, RoseBy-then, Rose-later}
+use Rattle.definitions.proofs.Counts.{RoseBy-nothing, RoseBy-then, Rose-later}
 use Rattle.at_edge.proofs.SourceLaws.{Gave-nothing, Gave-then}
 use Rattle.at_edge.proofs.SinkLaws.{Holds-nothing, Holds-then}
 use Rattle.at_edge.proofs.EntropyLaws.{Drew-nothing, Drew-then}

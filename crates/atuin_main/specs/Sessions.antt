@@ -7,7 +7,7 @@ use Rattle.definitions.specs.Journal.{JournalEntry}
 use Rattle.definitions.specs.Replies.{PlainReply, plain_reply_bytes}
 use Rattle.definitions.specs.Step.{Used, UsedFits}
 use Rattle.definitions.specs.Runs.{Run}
-use Rattle.at_edge.specs.Counts.{Rose, RoseBy}
+use Rattle.definitions.specs.Counts.{Rose, RoseBy}
 use Rattle.at_edge.specs.Taking.{SourceSeen, Gave}
 use Rattle.at_edge.specs.Writing.{SinkSeen, Holds}
 use Rattle.at_edge.specs.Drawing.{EntropySeen, Drew}

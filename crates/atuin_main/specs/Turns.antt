@@ -4,7 +4,7 @@ use Rattle.std.specs.Int.{w32, to_be_bytes}
 use Rattle.std.specs.Io.KnownBytes.{IsAtEnd}
 use Rattle.definitions.specs.Frames.{frame, most_payload_bytes, CutFrame}
 use Rattle.definitions.specs.Journal.{JournalEntry}
-use Rattle.at_edge.specs.Counts.{Rose}
+use Rattle.definitions.specs.Counts.{Rose}
 use Rattle.at_edge.specs.Taking.{SourceSeen, Gave}
 use Rattle.at_edge.specs.Writing.{SinkSeen, Holds, Stopped}
 use Rattle.at_edge.specs.Drawing.{EntropySeen}

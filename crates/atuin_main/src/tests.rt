@@ -2,7 +2,7 @@
 //! by one second at each reading, and the random bytes are 00 to 1d.
 
 use super::*;
-use at_edge::{FixedClock, ListEntropy, MemSink, MemSource};
+use at_edge::{FixedClock, ListEntropy, MemSink, MemSource, SureDisk};
 use std::alloc::{AllocError, Global};
 use std::process::Abort;
 use std::test::*;
@@ -60,8 +60,9 @@ fn joined(alloc: Global, parts: &[&[u8]]) -> Result<Vec<u8>, AllocError> {
     Ok(all)
 }
 
-/// The status of the words `FOLDER WORD` over this input, and what was written.
-fn ended<R: AllocGlobal + Threads + Sync>(
+/// The status of the words `FOLDER WORD` over this input, and what was written. Two key texts and two disks are handed
+/// in, none of them empty.
+fn ended<R: AllocGlobal + Abort + Threads + Sync>(
     rt: &R,
     word: &str,
     input: Vec<u8>,
@@ -88,16 +89,18 @@ fn ended<R: AllocGlobal + Threads + Sync>(
         rt,
         alloc,
         &words,
-        b"",
-        b"",
+        b"a key's text",
+        b"another one",
         &mut source,
         &mut sink,
-        AbsentDisk::new(),
-        AbsentDisk::new(),
+        SureDisk::new(alloc, Vec::from_slice(alloc, b"first")?)?,
+        SureDisk::new(alloc, Vec::from_slice(alloc, b"second")?)?,
         &mut rand,
         &mut clock,
         &mut link,
     );
+    assert_eq!(rt; ended.disk.shows(), b"first".as_slice());
+    assert_eq!(rt; ended.second.shows(), b"second".as_slice());
     Ok((ended.status, Vec::from_slice(alloc, sink.written())?))
 }
 

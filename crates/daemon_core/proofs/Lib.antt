@@ -1,5 +1,4 @@
 pub mod EntryLaws
-pub mod Digits
 pub mod SearchLaws
 pub mod Steps
 pub mod Requests

@@ -4,12 +4,12 @@ use Rattle.at_edge.specs.Drawing.{EntropySeen}
 use Rattle.at_edge.specs.Telling.{ClockSeen}
 use Rattle.at_edge.proofs.EntropyLaws.{Drew-nothing}
 use Rattle.at_edge.proofs.ClockLaws.{Told-nothing}
-use Rattle.at_edge.proofs.CountLaws.{RoseBy-nothing}
+use Rattle.definitions.proofs.Counts.{RoseBy-nothing}
 use Rattle.definitions.specs.Spelling.{IsBytes, TextFits, SpellsText, TextForm, fixstr, str_8, str_16, str_32, text_limit}
-use Rattle.definitions.specs.Calls.{Kind, PlainCall, SearchMode, SpellsCall, SpellsArguments, WrongAt, plain_kinds, start_kinds, arguments, search_call}
+use Rattle.definitions.specs.Calls.{Kind, PlainCall, SearchMode, SpellsCall, SpellsArguments, WrongAt, plain_kinds, start_kinds, arguments, plain_search_call}
 use Rattle.definitions.specs.Reading.{call_at}
 use Rattle.definitions.specs.Journal.{JournalEntry}
-use Rattle.definitions.specs.Replies.{PlainReply, plain_answer_bytes, plain_reply_bytes, no_memory, bad_request}
+use Rattle.definitions.specs.Replies.{PlainReply, plain_answer_bytes, plain_reply_bytes, plain_no_memory, plain_bad_request}
 use Rattle.definitions.proofs.Runs.{UsedFits-nothing}
 use Rattle.definitions.specs.Step.{PlainStep, used_nothing, read_clock, answered_at, unread}
 use Rattle.definitions.proofs.Numbered.{wrong_found}
@@ -96,18 +96,18 @@ module _ (rand rand_new : EntropySeen) (clock clock_new : ClockSeen) (old new : 
   }
 
   pub answers_search : (mode : SearchMode) (past : List ℕ) (offset limit : ℕ) (reply : PlainReply)
-      → ((bytes : List ℕ) → SpellsCall (search_call mode past offset limit) bytes → PlainStep old bytes used_nothing reply old) → reply.front ≡ length old
-      → SpellsCall (search_call mode past offset limit) payload → WritesOr reply before after → AnswersPlain rand rand clock clock old old payload before after
+      → ((bytes : List ℕ) → SpellsCall (plain_search_call mode past offset limit) bytes → PlainStep old bytes used_nothing reply old) → reply.front ≡ length old
+      → SpellsCall (plain_search_call mode past offset limit) payload → WritesOr reply before after → AnswersPlain rand rand clock clock old old payload before after
   answers_search mode past offset limit reply step front spelled (inl written) = answers_nothing reply (step payload spelled) written
   answers_search mode past offset limit reply step front spelled (inr refused) =
-      answers_nothing (answered_at old no_memory) (search_refused old mode past offset limit (answered_at old no_memory) refl payload spelled)
-      (refused ∙ ap (λ (n : ℕ). before ++ plain_answer_bytes n no_memory) front)
+      answers_nothing (answered_at old plain_no_memory) (search_refused old mode past offset limit (answered_at old plain_no_memory) refl payload spelled)
+      (refused ∙ ap (λ (n : ℕ). before ++ plain_answer_bytes n plain_no_memory) front)
 
   pub answers_wrong : (place left front : ℕ) → IsBytes payload → call_at plain_kinds payload ≡ Err left → place + left ≡ length payload → front ≡ length old
-      → after ≡ before ++ plain_answer_bytes front (bad_request place) → AnswersPlain rand rand clock clock old old payload before after
+      → after ≡ before ++ plain_answer_bytes front (plain_bad_request place) → AnswersPlain rand rand clock clock old old payload before after
   answers_wrong place left front are read at is_front written =
       let wrong = wrong_found plain_kinds payload left are read in
       let same : length payload - left ≡ place = omega arith in
-      answers_nothing (answered_at old (bad_request place))
+      answers_nothing (answered_at old (plain_bad_request place))
       (unread place (subst (WrongAt plain_kinds payload) same wrong.1) refl (record { journal = refl; reply_is = refl }))
-      (written ∙ ap (λ (n : ℕ). before ++ plain_answer_bytes n (bad_request place)) is_front)
+      (written ∙ ap (λ (n : ℕ). before ++ plain_answer_bytes n (plain_bad_request place)) is_front)

@@ -101,8 +101,8 @@ sum_more hits k d below =
 
 -- the page has room for one more hit
 pub page_goes_on : (limit k bytes more : ℕ) (hits : List (Bor History)) (hit : Bor History) → k < length hits → hit ≡ slice_index_or hits k hit
-    → bytes ≡ sum_by hit_bytes (hits_of (take k hits)) → more ≡ hit_bytes (hit_of hit) → more < 2 ^ 34 → (k < limit) × ((k ≡ 0) ⊎ (bytes + more ≤ most_shown_bytes))
-    → (bytes + more ≡ sum_by hit_bytes (hits_of (take (k + 1) hits))) × FitsPage hit_bytes limit (hits_of (take (k + 1) hits)) × (bytes + more < 2 ^ 35)
+    → bytes ≡ sum_by hit_bytes (hits_of (take k hits)) → more ≡ hit_bytes (hit_of hit) → more < 2 ^ 35 → (k < limit) × ((k ≡ 0) ⊎ (bytes + more ≤ most_shown_bytes))
+    → (bytes + more ≡ sum_by hit_bytes (hits_of (take (k + 1) hits))) × FitsPage hit_bytes limit (hits_of (take (k + 1) hits)) × (bytes + more < 2 ^ 36)
 page_goes_on limit k bytes more hits hit below is total counted small (some, room) =
     let one : more ≡ hit_bytes (hit_of (slice_index_or hits k hit)) = counted ∙ ap (λ (b : Bor History). hit_bytes (hit_of b)) is in
     let sum : bytes + more ≡ sum_by hit_bytes (hits_of (take (k + 1) hits)) = ap₂ (λ (a b : ℕ). a + b) total one ∙ sym (sum_more hits k hit below) in
@@ -112,10 +112,10 @@ page_goes_on limit k bytes more hits hit below is total counted small (some, roo
       | inl first ↦
           let nothing : bytes ≡ 0 = total ∙ ap (λ (n : ℕ). sum_by hit_bytes (hits_of (take n hits))) first in
           let single : length (hits_of (take (k + 1) hits)) ≤ 1 = omega arith in
-          let bound : bytes + more < 2 ^ 35 = omega arith in (sum, (within, inl single), bound)
+          let bound : bytes + more < 2 ^ 36 = omega arith in (sum, (within, inl single), bound)
       | inr fits ↦
           let texts : sum_by hit_bytes (hits_of (take (k + 1) hits)) ≤ most_shown_bytes = omega arith in
-          let bound : bytes + more < 2 ^ 35 = omega arith in (sum, (within, inr texts), bound)
+          let bound : bytes + more < 2 ^ 36 = omega arith in (sum, (within, inr texts), bound)
     ]
 
 -- the next hit doesn't fit: there are as many as may be, or its texts are too long

@@ -1,12 +1,12 @@
 -- What one call to the daemon does: the step, what it took of the outside, and the reply's bytes.
 use Rattle.std.specs.Prelude.{◌≡◌, ℕ, ◌<◌, ◌^◌, List, [], ◌∷◌, ◌++◌, length, ◌⊎◌}
-use Rattle.at_edge.specs.Counts.{RoseBy}
+use Rattle.definitions.specs.Counts.{RoseBy}
 use Rattle.at_edge.specs.Drawing.{EntropySeen, Drew}
 use Rattle.at_edge.specs.Telling.{ClockSeen, Told}
 use Rattle.definitions.specs.Calls.{PlainCall, SpellsCall}
 use Rattle.definitions.specs.Ids.{id_text}
 use Rattle.definitions.specs.Journal.{HistoryRecord, JournalEntry, ended, ended_in}
-use Rattle.definitions.specs.Replies.{PlainReply, PlainAnswer, hit_list, no_memory, stored_index, plain_answer_bytes, plain_reply_bytes, written_number}
+use Rattle.definitions.specs.Replies.{PlainReply, PlainAnswer, plain_hit_list, plain_no_memory, plain_stored_index, plain_answer_bytes, plain_reply_bytes, written_number, written_author, hit_length}
 use Rattle.definitions.specs.Spelling.{written_array, written_text, written_integer}
 use Rattle.definitions.specs.Step.{Used, UsedFits, PlainStep, Answers, PlainRefuses, read_clock}
 
@@ -42,23 +42,23 @@ pub record Ends (clock_old clock_new : ClockSeen) (old new : List JournalEntry) 
 
 -- the ended command was put behind the others, or there was no memory for it
 pub data Stores (old new : List JournalEntry) (h : HistoryRecord) (reply : PlainReply) : Type 0 where
-  stored : Answers (old ++ ended h ∷ []) new reply (stored_index (length (ended_in old))) → Stores old new h reply
-  not_stored : PlainRefuses old new reply no_memory → Stores old new h reply
+  stored : Answers (old ++ ended h ∷ []) new reply (plain_stored_index (length (ended_in old))) → Stores old new h reply
+  not_stored : PlainRefuses old new reply plain_no_memory → Stores old new h reply
 
 -- the answer's bytes need no more room than a caller keeps spare
 abbrev pub IsShort : PlainAnswer → Type 0
-IsShort (hit_list hits) = ⊥
+IsShort (plain_hit_list hits) = ⊥
 IsShort _ = Unit {0}
 
 -- an answer that one array holds
 abbrev pub IsCounted : PlainAnswer → Type 0
-IsCounted (hit_list hits) = length hits < 2 ^ 32
+IsCounted (plain_hit_list hits) = length hits < 2 ^ 32
 IsCounted _ = Unit {0}
 
 -- the reply's bytes were put behind those that stood before, or those of the refusal for want of memory
 abbrev pub WritesOr : PlainReply → List ℕ → List ℕ → Type 0
 WritesOr reply before after =
-    (after ≡ before ++ plain_reply_bytes reply) ⊎ (after ≡ before ++ plain_answer_bytes reply.front no_memory)
+    (after ≡ before ++ plain_reply_bytes reply) ⊎ (after ≡ before ++ plain_answer_bytes reply.front plain_no_memory)
 
 -- the header of a reply's array, the number of its refusal or 0, and the front
 abbrev pub head_bytes : ℕ → ℕ → ℕ → List ℕ
@@ -66,7 +66,7 @@ head_bytes items number front = written_array items ++ (written_number number ++
 
 -- the two halves of a hit's item
 unfoldable pub hit_numbers : HistoryRecord → List ℕ
-hit_numbers h = written_array 8 ++ (written_text (id_text h.id) ++ (written_number h.timestamp ++ (written_integer h.duration ++ written_integer h.exit)))
+hit_numbers h = written_array (hit_length h.author) ++ (written_text (id_text h.id) ++ (written_number h.timestamp ++ (written_integer h.duration ++ written_integer h.exit)))
 
 unfoldable pub hit_texts : HistoryRecord → List ℕ
-hit_texts h = written_text h.command ++ (written_text h.cwd ++ (written_text h.session ++ written_text h.hostname))
+hit_texts h = written_text h.command ++ (written_text h.cwd ++ (written_text h.session ++ (written_text h.hostname ++ written_author h.author)))

@@ -1,6 +1,6 @@
 pub mod Entries
-pub mod Digits
 pub mod Requests
 pub mod Hits
 pub mod Answering
+pub mod Answers
 pub mod Reads

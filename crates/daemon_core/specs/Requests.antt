@@ -1,7 +1,7 @@
 -- What the parts of a request ask.
 use Rattle.std.specs.Prelude.{ℕ}
 use Rattle.definitions.specs.Spelling.{TextFits}
-use Rattle.definitions.specs.Calls.{PlainCall, start_call, end_call, search_call}
+use Rattle.definitions.specs.Calls.{PlainCall, plain_start_call, plain_end_call, plain_search_call}
 use Rattle.definitions.specs.Journal.{StartedRecord}
 use Rattle.record_model.specs.Seen.{mode_seen}
 use Rattle.daemon_core.specs.declared.reading.StartParts.{StartParts}
@@ -11,13 +11,13 @@ use Rattle.daemon_core.specs.declared.reading.Request.{Request}
 use Rattle.daemon_core.specs.declared.reading.Request.TheVariants.{Start, End, Search}
 
 abbrev pub start_asked : StartParts → PlainCall
-start_asked p = start_call p.command.now p.cwd.now p.session.now p.hostname.now
+start_asked p = plain_start_call p.command.now p.cwd.now p.session.now p.hostname.now
 
 abbrev pub end_asked : EndParts → PlainCall
-end_asked p = end_call p.id p.duration p.exit
+end_asked p = plain_end_call p.id p.duration p.exit
 
 abbrev pub search_asked : SearchParts → PlainCall
-search_asked p = search_call (mode_seen p.mode) p.past.now p.offset p.limit
+search_asked p = plain_search_call (mode_seen p.mode) p.past.now p.offset p.limit
 
 abbrev pub asked : Request → PlainCall
 asked (Start p) = start_asked p

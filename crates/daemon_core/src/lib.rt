@@ -14,7 +14,7 @@
 #![tactic(auto)]
 
 mod answer;
-mod ids;
+mod answers;
 mod journal;
 mod reading;
 mod replies;

@@ -7,9 +7,8 @@ ghost use Rattle.record_model.specs.Seen.{mode_seen};
 ghost use Rattle.daemon_core.specs.Requests.{start_asked, end_asked, search_asked};
 ghost use Rattle.daemon_core.specs.Reads.{Gives, GivesLast, GivesCall, number_of, kinds_named};
 
-use crate::ids::id_of;
 use msgpack_fields::{Reader, Wrong};
-use record_model::Mode;
+use record_model::{Mode, read_history_id};
 
 /// The texts of a Start.
 #[derive(Drop)]
@@ -188,7 +187,7 @@ fn id(reader: &mut Reader<'_>) -> Result<u128, Wrong>
 {
     let place = reader.place();
     let digits = reader.text()?;
-    match id_of(digits) {
+    match read_history_id(digits) {
         Some(id) => Ok(id),
         None => Err(Wrong { place }),
     }

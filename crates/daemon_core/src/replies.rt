@@ -3,14 +3,15 @@ ghost use Rattle.std.specs.Prelude.{◌≡◌, ◌+◌, ◌≤◌, ◌<◌, ◌^
 ghost use Rattle.std.specs.List.{flat_map};
 ghost use Rattle.definitions.specs.Ids.{id_text};
 ghost use Rattle.definitions.specs.Spelling.{written_array, written_text};
-ghost use Rattle.definitions.specs.Replies.{PlainReply, plain_answer_bytes, plain_reply_bytes, hit_item, written_number, ok_bytes, refusal_bytes, refusal_of_bytes, bad_request, no_memory};
-ghost use Rattle.record_model.specs.Seen.{history_seen, histories_seen, answer_seen, refusal_seen, result_seen, reply_seen};
+ghost use Rattle.definitions.specs.Replies.{PlainReply, plain_answer_bytes, plain_reply_bytes, written_author, hit_length, hit_item, written_number, ok_bytes, refusal_bytes, refusal_of_bytes, plain_bad_request, plain_no_memory};
+ghost use Rattle.record_model.specs.Seen.{history_seen, histories_seen};
+ghost use Rattle.daemon_core.specs.Answers.{answer_seen, refusal_seen, result_seen, reply_seen};
 ghost use Rattle.daemon_core.specs.Answering.{IsShort, IsCounted, WritesOr, head_bytes, hit_numbers, hit_texts};
 
-use crate::ids::id_digits;
+use crate::answers::{JournalAnswer, JournalRefusal, JournalReply};
 use msgpack_fields::Writer;
 use plain_types::{Bytes, NoMemory};
-use record_model::{Answer, History, Refusal, Reply};
+use record_model::{History, Text, history_id_text};
 use std::alloc::Global;
 use std::mem;
 
@@ -19,7 +20,7 @@ use std::mem;
 const MOST_REPLY_BYTES: usize = 1 << 31;
 
 /// Puts the bytes of a reply without hits behind those that stand there. 64 bytes spare are room for it.
-pub(crate) fn write_short(alloc: Global, reply: &Reply, into: &mut Bytes)
+pub(crate) fn write_short(alloc: Global, reply: &JournalReply, into: &mut Bytes)
     requires room { length into.old.items + 64 ≤ into.old.reserved }
     requires short { IsShort (reply_seen reply.now).answer }
     ensures written { into.new.items ≡ into.old.items ++ plain_reply_bytes (reply_seen reply.now) }
@@ -36,7 +37,7 @@ pub(crate) fn write_short(alloc: Global, reply: &Reply, into: &mut Bytes)
 
 /// Puts the bytes of a reply behind those that stand there, or where there is no memory for them those of the refusal
 /// for want of memory.
-pub(crate) fn write_or_refuse(alloc: Global, reply: &Reply, into: &mut Bytes)
+pub(crate) fn write_or_refuse(alloc: Global, reply: &JournalReply, into: &mut Bytes)
     requires room { length into.old.items + 64 ≤ into.old.reserved }
     requires counted { IsCounted (reply_seen reply.now).answer }
     ensures written { WritesOr (reply_seen reply.now) into.old.items into.new.items }
@@ -46,9 +47,9 @@ pub(crate) fn write_or_refuse(alloc: Global, reply: &Reply, into: &mut Bytes)
     match append(alloc, reply, into) {
         Ok(()) => (),
         Err(NoMemory) => {
-            let refused = Reply {
+            let refused = JournalReply {
                 front: reply.front,
-                result: Err(Refusal::NoMemory),
+                result: Err(JournalRefusal::NoMemory),
             };
             write_short(alloc, &refused, into);
         }
@@ -56,7 +57,7 @@ pub(crate) fn write_or_refuse(alloc: Global, reply: &Reply, into: &mut Bytes)
 }
 
 /// Puts the bytes of a reply behind those that stand there, which stay as they were where there is no memory.
-fn append(alloc: Global, reply: &Reply, into: &mut Bytes) -> Result<(), NoMemory>
+fn append(alloc: Global, reply: &JournalReply, into: &mut Bytes) -> Result<(), NoMemory>
     requires { IsCounted (reply_seen reply.now).answer }
     ensures ok { OnOk result (into.new.items ≡ into.old.items ++ plain_reply_bytes (reply_seen reply.now)) }
     ensures err { OnErr result (into.new.items ≡ into.old.items) }
@@ -75,7 +76,7 @@ fn append(alloc: Global, reply: &Reply, into: &mut Bytes) -> Result<(), NoMemory
 /// Puts the refusal of a payload that is wrong at `place` behind the bytes that stand there.
 pub(crate) fn write_bad_request(alloc: Global, front: u64, place: usize, into: &mut Bytes)
     requires room { length into.old.items + 64 ≤ into.old.reserved }
-    ensures written { into.new.items ≡ into.old.items ++ plain_answer_bytes front (bad_request place) }
+    ensures written { into.new.items ≡ into.old.items ++ plain_answer_bytes front (plain_bad_request place) }
     ensures reserved { into.old.reserved ≤ into.new.reserved }
     ensures small { length into.new.items ≤ length into.old.items + 64 }
 {
@@ -88,7 +89,7 @@ pub(crate) fn write_bad_request(alloc: Global, front: u64, place: usize, into: &
 }
 
 fn put_bad_request(writer: &mut Writer, front: u64, place: u64) -> Result<(), NoMemory>
-    ensures ok { OnOk result (writer.new.items ≡ writer.old.items ++ plain_answer_bytes front (bad_request place)) }
+    ensures ok { OnOk result (writer.new.items ≡ writer.old.items ++ plain_answer_bytes front (plain_bad_request place)) }
     ensures reserved { writer.old.reserved ≤ writer.new.reserved }
     ensures short { OnOk result (length writer.new.items ≤ length writer.old.items + 64) }
     ensures enough { length writer.old.items + 64 ≤ writer.old.reserved → IsOk result }
@@ -98,7 +99,7 @@ fn put_bad_request(writer: &mut Writer, front: u64, place: u64) -> Result<(), No
 }
 
 /// Writes a reply. Where memory runs out, some of it may stand behind the bytes from before.
-fn put_reply(writer: &mut Writer, reply: &Reply) -> Result<(), NoMemory>
+fn put_reply(writer: &mut Writer, reply: &JournalReply) -> Result<(), NoMemory>
     requires { IsCounted (reply_seen reply.now).answer }
     ensures ok { OnOk result (writer.new.items ≡ writer.old.items ++ plain_reply_bytes (reply_seen reply.now)) }
     ensures reserved { writer.old.reserved ≤ writer.new.reserved }
@@ -111,7 +112,7 @@ fn put_reply(writer: &mut Writer, reply: &Reply) -> Result<(), NoMemory>
     }
 }
 
-fn put_answer(writer: &mut Writer, front: u64, answer: &Answer) -> Result<(), NoMemory>
+fn put_answer(writer: &mut Writer, front: u64, answer: &JournalAnswer) -> Result<(), NoMemory>
     requires { IsCounted (answer_seen answer.now) }
     ensures ok { OnOk result (writer.new.items ≡ writer.old.items ++ plain_answer_bytes front (answer_seen answer.now)) }
     ensures reserved { writer.old.reserved ≤ writer.new.reserved }
@@ -120,23 +121,23 @@ fn put_answer(writer: &mut Writer, front: u64, answer: &Answer) -> Result<(), No
 {
     put_head(writer, 3, 0, front)?;
     match answer {
-        Answer::Begun { id } => put_id(writer, *id),
-        Answer::Stored { idx } => writer.int(i128::from(*idx)),
-        Answer::Hits(hits) => put_hits(writer, hits.as_slice()),
+        JournalAnswer::Begun { id } => put_id(writer, *id),
+        JournalAnswer::Stored { idx } => writer.int(i128::from(*idx)),
+        JournalAnswer::Hits(hits) => put_hits(writer, hits.as_slice()),
     }
 }
 
-fn put_refusal(writer: &mut Writer, front: u64, refusal: Refusal) -> Result<(), NoMemory>
+fn put_refusal(writer: &mut Writer, front: u64, refusal: JournalRefusal) -> Result<(), NoMemory>
     ensures ok { OnOk result (writer.new.items ≡ writer.old.items ++ plain_answer_bytes front (refusal_seen refusal)) }
     ensures reserved { writer.old.reserved ≤ writer.new.reserved }
     ensures short { OnOk result (length writer.new.items ≤ length writer.old.items + 64) }
     ensures enough { length writer.old.items + 64 ≤ writer.old.reserved → IsOk result }
 {
     match refusal {
-        Refusal::UnknownId { id } => put_refusal_of(writer, 2, front, id),
-        Refusal::RandFault => put_head(writer, 2, 5, front),
-        Refusal::IdTaken { id } => put_refusal_of(writer, 6, front, id),
-        Refusal::NoMemory => put_head(writer, 2, 8, front),
+        JournalRefusal::UnknownId { id } => put_refusal_of(writer, 2, front, id),
+        JournalRefusal::RandFault => put_head(writer, 2, 5, front),
+        JournalRefusal::IdTaken { id } => put_refusal_of(writer, 6, front, id),
+        JournalRefusal::NoMemory => put_head(writer, 2, 8, front),
     }
 }
 
@@ -168,7 +169,7 @@ fn put_id(writer: &mut Writer, id: u128) -> Result<(), NoMemory>
     ensures short { OnOk result (length writer.new.items ≤ length writer.old.items + 37) }
     ensures enough { length writer.old.items + 37 ≤ writer.old.reserved → IsOk result }
 {
-    writer.text(&id_digits(id))
+    writer.text(&history_id_text(id))
 }
 
 fn put_hits(writer: &mut Writer, hits: &[History]) -> Result<(), NoMemory>
@@ -203,7 +204,7 @@ fn put_numbers(writer: &mut Writer, hit: &History) -> Result<(), NoMemory>
     ensures ok { OnOk result (writer.new.items ≡ writer.old.items ++ hit_numbers (history_seen hit.now)) }
     ensures reserved { writer.old.reserved ≤ writer.new.reserved }
 {
-    writer.array(8)?;
+    writer.array(item_count(&hit.author))?;
     put_id(writer, hit.id)?;
     writer.int(i128::from(hit.timestamp))?;
     writer.int(i128::from(hit.duration))?;
@@ -218,5 +219,26 @@ fn put_texts(writer: &mut Writer, hit: &History) -> Result<(), NoMemory>
     writer.text(hit.command.as_bytes())?;
     writer.text(hit.cwd.as_bytes())?;
     writer.text(hit.session.as_bytes())?;
-    writer.text(hit.hostname.as_bytes())
+    writer.text(hit.hostname.as_bytes())?;
+    put_author(writer, &hit.author)
+}
+
+/// How many items a hit has: its author is one more.
+fn item_count(author: &Option<Text>) -> u32
+    ensures { result ≡ hit_length author.now }
+{
+    match author {
+        Some(_) => 9,
+        None => 8,
+    }
+}
+
+fn put_author(writer: &mut Writer, author: &Option<Text>) -> Result<(), NoMemory>
+    ensures ok { OnOk result (writer.new.items ≡ writer.old.items ++ written_author author.now) }
+    ensures reserved { writer.old.reserved ≤ writer.new.reserved }
+{
+    match author {
+        Some(author) => writer.text(author.as_bytes()),
+        None => Ok(()),
+    }
 }

@@ -4,14 +4,14 @@ ghost use Rattle.std.specs.Bool.{OnTrue, OnFalse};
 ghost use Rattle.std.specs.List.Sorted.{IsPermutation, IsSortedBy};
 ghost use Rattle.std.specs.Ordering.{is_lt};
 ghost use Rattle.definitions.specs.Journal.{ended_in};
-ghost use Rattle.definitions.specs.Search.{is_shown_before, hit_bytes, most_shown_bytes, IsPage, IsAnswer};
+ghost use Rattle.definitions.specs.Search.{is_shown_before, author_length, hit_bytes, most_shown_bytes, IsPage, IsAnswer};
 ghost use Rattle.record_model.specs.Seen.{history_seen, histories_seen};
 ghost use Rattle.daemon_core.specs.Entries.{entries_seen};
 ghost use Rattle.daemon_core.specs.Hits.{hits_of, ended_of};
 
 use crate::journal::PlainEntry;
 use plain_types::NoMemory;
-use record_model::{Histories, History};
+use record_model::{Histories, History, Text};
 use std::alloc::Global;
 use std::cmp::Ordering;
 
@@ -117,12 +117,24 @@ fn may_go_on(count: usize, limit: u32, bytes: u64) -> bool
 /// The number of bytes of a hit's texts.
 fn text_bytes(hit: &History) -> u64
     ensures value { result ≡ hit_bytes (history_seen hit.now) }
-    ensures below { result < 2 ^ 34 }
+    ensures below { result < 2 ^ 35 }
 {
     hit.command.len() as u64
         + hit.cwd.len() as u64
         + hit.session.len() as u64
         + hit.hostname.len() as u64
+        + author_bytes(&hit.author)
+}
+
+/// The number of bytes of an author's text, and 0 where there is none.
+fn author_bytes(author: &Option<Text>) -> u64
+    ensures value { result ≡ author_length author.now }
+    ensures below { result < 2 ^ 32 }
+{
+    match author {
+        Some(author) => author.len() as u64,
+        None => 0,
+    }
 }
 
 fn copies(alloc: Global, hits: &[&History]) -> Result<Histories, NoMemory>

@@ -3,17 +3,24 @@
 ghost use Rattle.std.specs.Prelude.{◌≡◌, ◌<◌, ◌≤◌, ◌^◌, length, option_map, IfSome, IfNone};
 ghost use Rattle.std.specs.Int.{w8, w16, w32, w64};
 ghost use Rattle.std.specs.Str.{is_utf8, IsUtf8};
-ghost use Rattle.definitions.specs.Spelling.{SpellsInteger, IsInteger, IsSpellable, SpellsText, IsText, SpellsArray, IsArray};
+ghost use Rattle.definitions.specs.Spelling.{SpellsInteger, IsInteger, IsSpellable, SpellsText, IsText, TextFits, SpellsArray, IsArray};
 ghost use Rattle.definitions.specs.Reading.{wide_at, integer_at, text_head_at, text_at, array_at};
 ghost use Rattle.definitions.specs.Calls.{NoFront};
-ghost use Rattle.msgpack_fields.specs.Reading.{BeginsWith};
+ghost use Rattle.payload_rules.specs.Items.{SpellsBin};
+ghost use Rattle.payload_rules.specs.Reading.{bin_head_at, bin_at};
+ghost use Rattle.msgpack_fields.specs.Reading.{BeginsWith, IsBin, SpellsNilOr, SpellsNumber, IsNilOr, number_at, nil_or_at};
+
+use byteorder::{BigEndian, ByteOrder};
+
+/// The one spelling of nil.
+const NIL: u8 = 0xc0;
 
 fn u8_of(bytes: &[u8]) -> Option<(u8, &[u8])>
     ensures value { option_map (λ x. (x.0, x.1.now)) result ≡ wide_at w8 bytes.now }
     ensures shorter { IfSome result (λ x. length x.1.now ≤ length bytes.now) }
 {
     let (number, rest) = bytes.split_first_chunk::<1>()?;
-    Some((u8::from_be_bytes(*number), rest))
+    Some((number[0], rest))
 }
 
 fn u16_of(bytes: &[u8]) -> Option<(u16, &[u8])>
@@ -21,7 +28,7 @@ fn u16_of(bytes: &[u8]) -> Option<(u16, &[u8])>
     ensures shorter { IfSome result (λ x. length x.1.now ≤ length bytes.now) }
 {
     let (number, rest) = bytes.split_first_chunk::<2>()?;
-    Some((u16::from_be_bytes(*number), rest))
+    Some((BigEndian::read_u16(number), rest))
 }
 
 fn u32_of(bytes: &[u8]) -> Option<(u32, &[u8])>
@@ -29,7 +36,7 @@ fn u32_of(bytes: &[u8]) -> Option<(u32, &[u8])>
     ensures shorter { IfSome result (λ x. length x.1.now ≤ length bytes.now) }
 {
     let (number, rest) = bytes.split_first_chunk::<4>()?;
-    Some((u32::from_be_bytes(*number), rest))
+    Some((BigEndian::read_u32(number), rest))
 }
 
 fn u64_of(bytes: &[u8]) -> Option<(u64, &[u8])>
@@ -37,7 +44,7 @@ fn u64_of(bytes: &[u8]) -> Option<(u64, &[u8])>
     ensures shorter { IfSome result (λ x. length x.1.now ≤ length bytes.now) }
 {
     let (number, rest) = bytes.split_first_chunk::<8>()?;
-    Some((u64::from_be_bytes(*number), rest))
+    Some((BigEndian::read_u64(number), rest))
 }
 
 /// Whether the bytes are UTF-8.
@@ -102,6 +109,34 @@ fn text_at_front(bytes: &[u8]) -> Option<(&[u8], &[u8])>
     }
 }
 
+/// The length in the head of a bin, and what stands behind the head.
+#[tactic(auto, unfolding(payload_rules::specs::Reading::bin_head_at))]
+fn bin_head_of(bytes: &[u8]) -> Option<(u32, &[u8])>
+    ensures value { option_map (λ x. (x.0, x.1.now)) result ≡ bin_head_at bytes.now }
+    ensures shorter { IfSome result (λ x. length x.1.now ≤ length bytes.now) }
+{
+    let (first, rest) = bytes.split_first()?;
+    match *first {
+        0xc4 => u8_of(rest).map(|(length, rest)| (u32::from(length), rest)),
+        0xc5 => u16_of(rest).map(|(length, rest)| (u32::from(length), rest)),
+        0xc6 => u32_of(rest),
+        _ => None,
+    }
+}
+
+#[tactic(auto, unfolding(payload_rules::specs::Reading::bin_at))]
+fn bin_at_front(bytes: &[u8]) -> Option<(&[u8], &[u8])>
+    ensures value { option_map (λ x. (x.0.now, x.1.now)) result ≡ bin_at bytes.now }
+    ensures shorter { IfSome result (λ x. length x.1.now ≤ length bytes.now) }
+{
+    let (length, rest) = bin_head_of(bytes)?;
+    let length = length as usize;
+    if rest.len() < length {
+        return None;
+    }
+    Some(rest.split_at(length))
+}
+
 #[tactic(auto, unfolding(definitions::specs::Reading::array_at))]
 fn array_at_front(bytes: &[u8]) -> Option<(u32, &[u8])>
     ensures value { option_map (λ x. (x.0, x.1.now)) result ≡ array_at bytes.now }
@@ -147,4 +182,75 @@ pub fn array_of(bytes: &[u8]) -> Option<(u32, &[u8])>
     ensures shorter { IfSome result (λ x. length x.1.now ≤ length bytes.now) }
 {
     array_at_front(bytes)
+}
+
+/// What the bin at the front holds, in any of its spellings, and what stands behind it.
+pub fn bin_of(bytes: &[u8]) -> Option<(&[u8], &[u8])>
+    ensures spelled { IfSome result (λ x. BeginsWith (SpellsBin x.0.now) bytes.now x.1.now) }
+    ensures none { IfNone result (NoFront IsBin bytes.now) }
+    ensures value { option_map (λ x. (x.0.now, x.1.now)) result ≡ bin_at bytes.now }
+    ensures shorter { IfSome result (λ x. length x.1.now ≤ length bytes.now) }
+{
+    bin_at_front(bytes)
+}
+
+/// The number at the front that isn't negative, in any of its spellings, and what stands behind it.
+#[tactic(auto, unfolding(crate::specs::Reading::number_at))]
+fn number_of(bytes: &[u8]) -> Option<(u64, &[u8])>
+    ensures value { option_map (λ x. (x.0, x.1.now)) result ≡ number_at bytes.now }
+    ensures shorter { IfSome result (λ x. length x.1.now ≤ length bytes.now) }
+{
+    let (value, rest) = integer_of(bytes)?;
+    if value < 0 {
+        None
+    } else {
+        Some((value as u64, rest))
+    }
+}
+
+#[tactic(auto, unfolding(crate::specs::Reading::nil_or_at))]
+fn nil_or_u64_at_front(bytes: &[u8]) -> Option<(Option<u64>, &[u8])>
+    ensures value { option_map (λ x. (x.0, x.1.now)) result ≡ nil_or_at number_at bytes.now }
+    ensures shorter { IfSome result (λ x. length x.1.now ≤ length bytes.now) }
+{
+    let (first, rest) = bytes.split_first()?;
+    if *first == NIL {
+        return Some((None, rest));
+    }
+    let (number, rest) = number_of(bytes)?;
+    Some((Some(number), rest))
+}
+
+#[tactic(auto, unfolding(crate::specs::Reading::nil_or_at))]
+fn nil_or_text_at_front(bytes: &[u8]) -> Option<(Option<&[u8]>, &[u8])>
+    ensures value { option_map (λ x. (option_map (λ t. t.now) x.0, x.1.now)) result ≡ nil_or_at text_at bytes.now }
+    ensures shorter { IfSome result (λ x. length x.1.now ≤ length bytes.now) }
+{
+    let (first, rest) = bytes.split_first()?;
+    if *first == NIL {
+        return Some((None, rest));
+    }
+    let (text, rest) = text_at_front(bytes)?;
+    Some((Some(text), rest))
+}
+
+/// Nil, or the number at the front that isn't negative, in any of its spellings, and what stands behind it.
+pub fn nil_or_u64_of(bytes: &[u8]) -> Option<(Option<u64>, &[u8])>
+    ensures spelled { IfSome result (λ x. BeginsWith (SpellsNilOr SpellsNumber x.0) bytes.now x.1.now) }
+    ensures none { IfNone result (NoFront (IsNilOr SpellsNumber) bytes.now) }
+    ensures value { option_map (λ x. (x.0, x.1.now)) result ≡ nil_or_at number_at bytes.now }
+    ensures shorter { IfSome result (λ x. length x.1.now ≤ length bytes.now) }
+{
+    nil_or_u64_at_front(bytes)
+}
+
+/// Nil, or the text at the front, in any of its spellings, and what stands behind it.
+pub fn nil_or_text_of(bytes: &[u8]) -> Option<(Option<&[u8]>, &[u8])>
+    ensures spelled { IfSome result (λ x. BeginsWith (SpellsNilOr SpellsText (option_map (λ t. t.now) x.0)) bytes.now x.1.now) }
+    ensures none { IfNone result (NoFront (IsNilOr SpellsText) bytes.now) }
+    ensures text { IfSome result (λ x. IfSome x.0 (λ t. TextFits t.now)) }
+    ensures value { option_map (λ x. (option_map (λ t. t.now) x.0, x.1.now)) result ≡ nil_or_at text_at bytes.now }
+    ensures shorter { IfSome result (λ x. length x.1.now ≤ length bytes.now) }
+{
+    nil_or_text_at_front(bytes)
 }

@@ -1,13 +1,16 @@
 //! Items read one after another.
 
-ghost use Rattle.std.specs.Prelude.{◌≡◌, ◌+◌, ◌<◌, ◌^◌, [], length, IfOk, IfErr, OnErr, IsOk, MatchResult, Some, None, ◌↔◌};
+ghost use Rattle.std.specs.Prelude.{◌≡◌, ◌+◌, ◌<◌, ◌^◌, [], length, IfOk, IfErr, OnErr, IsOk, MatchResult, IfSome, Some, None, ◌↔◌};
 ghost use Rattle.std.specs.Str.{IsUtf8};
-ghost use Rattle.definitions.specs.Spelling.{SpellsInteger, IsInteger, IsSpellable, SpellsText, IsText, SpellsArray, IsArray};
+ghost use Rattle.definitions.specs.Spelling.{SpellsInteger, IsInteger, IsSpellable, SpellsText, IsText, TextFits, SpellsArray, IsArray};
 ghost use Rattle.definitions.specs.Reading.{integer_at, text_at, array_at};
 ghost use Rattle.definitions.specs.Calls.{NoFront};
-ghost use Rattle.msgpack_fields.specs.Reading.{BeginsWith};
+ghost use Rattle.std.specs.Option.{option_map};
+ghost use Rattle.payload_rules.specs.Items.{SpellsBin};
+ghost use Rattle.payload_rules.specs.Reading.{bin_at};
+ghost use Rattle.msgpack_fields.specs.Reading.{BeginsWith, IsBin, SpellsNilOr, SpellsNumber, IsNilOr, number_at, nil_or_at};
 
-use crate::items::{array_of, integer_of, text_of};
+use crate::items::{array_of, bin_of, integer_of, nil_or_text_of, nil_or_u64_of, text_of};
 use std::marker::Model;
 
 /// The bytes have no such item here.
@@ -102,6 +105,83 @@ impl<'a> Reader<'a> {
             Some((text, rest)) => {
                 self.rest = rest;
                 Ok(text)
+            }
+            None => Err(Wrong {
+                place: self.place(),
+            }),
+        }
+    }
+
+    /// Reads a bin of fewer than 2^32 bytes in any of its spellings, and answers with what it holds (MessagePack, "bin
+    /// format family"). It takes no memory: what it holds is a part of the bytes.
+    ///
+    /// # Errors
+    ///
+    /// [`Wrong`] exactly where no spelling of a bin stands there: another item, or a bin that is cut. The reader then
+    /// stays where it was.
+    pub fn bin(&mut self) -> Result<&'a [u8], Wrong>
+        ensures spelled { IfOk result (λ held. BeginsWith (SpellsBin held.now) self.old.rest self.new.rest) }
+        ensures none { IfErr result (λ _. NoFront IsBin self.old.rest) }
+        ensures value { MatchResult result (λ held. bin_at self.old.rest ≡ Some (held.now, self.new.rest)) (λ _. bin_at self.old.rest ≡ None) }
+        ensures place { self.new.place + length self.new.rest ≡ self.old.place + length self.old.rest }
+        ensures wrong { IfErr result (λ e. e.place ≡ self.old.place) }
+        ensures err { OnErr result (self.new ≡ self.old) }
+    {
+        match bin_of(self.rest) {
+            Some((held, rest)) => {
+                self.rest = rest;
+                Ok(held)
+            }
+            None => Err(Wrong {
+                place: self.place(),
+            }),
+        }
+    }
+
+    /// Reads nil, or an integer from 0 to 2^64-1 in any of its spellings (MessagePack, "nil format", "int format
+    /// family"). It takes no memory.
+    ///
+    /// # Errors
+    ///
+    /// [`Wrong`] exactly where neither stands there. The reader then stays where it was.
+    pub fn nil_or_u64(&mut self) -> Result<Option<u64>, Wrong>
+        ensures spelled { IfOk result (λ v. BeginsWith (SpellsNilOr SpellsNumber v) self.old.rest self.new.rest) }
+        ensures none { IfErr result (λ _. NoFront (IsNilOr SpellsNumber) self.old.rest) }
+        ensures value { MatchResult result (λ v. nil_or_at number_at self.old.rest ≡ Some (v, self.new.rest)) (λ _. nil_or_at number_at self.old.rest ≡ None) }
+        ensures place { self.new.place + length self.new.rest ≡ self.old.place + length self.old.rest }
+        ensures wrong { IfErr result (λ e. e.place ≡ self.old.place) }
+        ensures err { OnErr result (self.new ≡ self.old) }
+    {
+        match nil_or_u64_of(self.rest) {
+            Some((value, rest)) => {
+                self.rest = rest;
+                Ok(value)
+            }
+            None => Err(Wrong {
+                place: self.place(),
+            }),
+        }
+    }
+
+    /// Reads nil, or a text in any of its spellings (MessagePack, "nil format", "str format family"). It takes no
+    /// memory: the text is a part of the bytes.
+    ///
+    /// # Errors
+    ///
+    /// [`Wrong`] exactly where neither stands there. The reader then stays where it was.
+    pub fn nil_or_text(&mut self) -> Result<Option<&'a [u8]>, Wrong>
+        ensures spelled { IfOk result (λ v. BeginsWith (SpellsNilOr SpellsText (option_map (λ t. t.now) v)) self.old.rest self.new.rest) }
+        ensures none { IfErr result (λ _. NoFront (IsNilOr SpellsText) self.old.rest) }
+        ensures text { IfOk result (λ v. IfSome v (λ t. TextFits t.now)) }
+        ensures value { MatchResult result (λ v. nil_or_at text_at self.old.rest ≡ Some (option_map (λ t. t.now) v, self.new.rest)) (λ _. nil_or_at text_at self.old.rest ≡ None) }
+        ensures place { self.new.place + length self.new.rest ≡ self.old.place + length self.old.rest }
+        ensures wrong { IfErr result (λ e. e.place ≡ self.old.place) }
+        ensures err { OnErr result (self.new ≡ self.old) }
+    {
+        match nil_or_text_of(self.rest) {
+            Some((value, rest)) => {
+                self.rest = rest;
+                Ok(value)
             }
             None => Err(Wrong {
                 place: self.place(),

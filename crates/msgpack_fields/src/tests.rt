@@ -157,3 +157,61 @@ fn texts_and_headers_are_written_behind_what_stands(rt: HostRuntime) -> Result<(
     );
     Ok(())
 }
+
+#[test]
+fn a_bin_is_read_in_every_width(rt: HostRuntime) {
+    let spelled: [(&[u8], &[u8]); 4] = [
+        (b"\xc4\x00", b""),
+        (b"\xc4\x02\xff\x00", b"\xff\x00"),
+        (b"\xc5\x00\x01a", b"a"),
+        (b"\xc6\x00\x00\x00\x01a", b"a"),
+    ];
+    for (bytes, held) in spelled {
+        let mut reader = Reader::new(bytes);
+        assert_eq!(rt; reader.bin(), Ok(held));
+        assert_eq!(rt; reader.end(), Ok(()));
+    }
+    // nothing, bins that are cut, and a text
+    let refused: [&[u8]; 6] = [
+        b"",
+        b"\xc4",
+        b"\xc4\x01",
+        b"\xc5\x00",
+        b"\xc6\xff\xff\xff\xffa",
+        b"\xa1a",
+    ];
+    for bytes in refused {
+        assert_eq!(rt; Reader::new(bytes).bin(), Err(Wrong { place: 0 }));
+    }
+}
+
+#[test]
+fn nil_is_read_where_it_may_stand(rt: HostRuntime) {
+    let mut reader = Reader::new(b"\xc0\x07\xc0\xa1a\xff");
+    assert_eq!(rt; reader.nil_or_text(), Ok(None));
+    assert_eq!(rt; reader.nil_or_text(), Err(Wrong { place: 1 }));
+    assert_eq!(rt; reader.nil_or_u64(), Ok(Some(7)));
+    assert_eq!(rt; reader.nil_or_u64(), Ok(None));
+    assert_eq!(rt; reader.nil_or_u64(), Err(Wrong { place: 3 }));
+    assert_eq!(rt; reader.nil_or_text(), Ok(Some(b"a".as_slice())));
+    assert_eq!(rt; reader.nil_or_u64(), Err(Wrong { place: 5 }));
+    let mut greatest = Reader::new(b"\xcf\xff\xff\xff\xff\xff\xff\xff\xff");
+    assert_eq!(rt; greatest.nil_or_u64(), Ok(Some(u64::MAX)));
+}
+
+#[test]
+fn named_forms_bins_and_nil_are_written(rt: HostRuntime) -> Result<(), Fail> {
+    let mut writer = Writer::new(rt.alloc());
+    writer.u8_form(0)?;
+    writer.u16_form(1)?;
+    writer.u64_form(49_206_000)?;
+    writer.bin(b"\xff")?;
+    writer.bin_head(256)?;
+    writer.bin_head(65_536)?;
+    writer.nil()?;
+    assert_eq!(rt;
+        writer.into_bytes().as_slice(),
+        b"\xcc\x00\xcd\x00\x01\xcf\x00\x00\x00\x00\x02\xee\xd2\xf0\xc4\x01\xff\xc5\x01\x00\xc6\x00\x01\x00\x00\xc0".as_slice()
+    );
+    Ok(())
+}

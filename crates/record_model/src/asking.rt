@@ -51,12 +51,58 @@ pub enum Call {
         session: Text,
         hostname: Text,
     },
-    /// The running command `id` has ended: after `duration` nanoseconds, with the status `exit`.
+    /// The running command `id` has ended: after `duration` nanoseconds, with the status `exit`, run by `author` where
+    /// the client tells.
     End {
         id: u128,
         duration: i64,
         exit: i64,
+        author: Option<Text>,
+    },
+    /// The ended command `id` is shown no more.
+    Delete {
+        id: u128,
     },
     /// Which ended commands match.
     Search(Query),
+    /// The key of the namespace has this value.
+    KvSet {
+        namespace: Text,
+        key: Text,
+        value: Text,
+    },
+    /// Which value a key of the namespace has.
+    KvGet {
+        namespace: Text,
+        key: Text,
+    },
+    /// The key of the namespace has no value any more.
+    KvDelete {
+        namespace: Text,
+        key: Text,
+    },
+    /// The keys of the namespace that stand behind `after` in the order of their bytes, all of them where `after` is
+    /// empty, and at most `limit`, 1 to 1,000.
+    KvList {
+        namespace: Text,
+        after: Text,
+        limit: u32,
+    },
+    /// The name stands for this value.
+    AliasSet {
+        name: Text,
+        value: Text,
+    },
+    /// The name stands for nothing any more.
+    AliasDelete {
+        name: Text,
+    },
+    /// The names, with their values, that stand behind `after` in the order of their bytes, all of them where `after`
+    /// is empty, and at most `limit`, 1 to 1,000.
+    AliasList {
+        after: Text,
+        limit: u32,
+    },
+    /// How long the chains are.
+    Status,
 }

@@ -1,7 +1,10 @@
 //! Commands that were begun.
 
-ghost use Rattle.std.specs.Prelude.{◌≡◌, IfOk};
+ghost use Rattle.std.specs.Prelude.{◌≡◌, ◌<◌, ◌^◌, IfOk};
+ghost use Rattle.record_rules.specs.Records.{started_weight};
+ghost use Rattle.record_model.specs.Seen.{started_seen};
 
+use crate::sealed::FIXED_WEIGHT;
 use plain_types::{NoMemory, Text};
 use std::alloc::Global;
 
@@ -20,6 +23,18 @@ pub struct Started {
 }
 
 impl Started {
+    /// What it weighs, in bytes: 128 and the lengths of its four texts. It takes no memory.
+    pub fn weight(&self) -> u64
+        ensures value { result ≡ started_weight (started_seen self.now) }
+        ensures below { result < 2 ^ 35 }
+    {
+        FIXED_WEIGHT
+            + self.command.len() as u64
+            + self.cwd.len() as u64
+            + self.session.len() as u64
+            + self.hostname.len() as u64
+    }
+
     /// An equal value.
     ///
     /// # Errors

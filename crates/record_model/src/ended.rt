@@ -1,6 +1,7 @@
 //! Commands that ended.
 
-ghost use Rattle.std.specs.Prelude.{◌≡◌, IfOk, length};
+ghost use Rattle.std.specs.Prelude.{◌≡◌, ◌<◌, ◌^◌, IfOk, length};
+ghost use Rattle.record_model.specs.Seen.{author_bytes, history_bytes};
 
 use plain_types::{NoMemory, Text};
 use std::alloc::Global;
@@ -24,9 +25,24 @@ pub struct History {
     pub hostname: Text,
     /// When it was deleted, in nanoseconds since 1970 began, if it was.
     pub deleted_at: Option<u64>,
+    /// Who or what ran it, if the client told.
+    pub author: Option<Text>,
 }
 
 impl History {
+    /// The lengths of command, cwd, session, hostname and, where there is one, author together, in bytes. It takes no
+    /// memory.
+    pub fn text_len(&self) -> u64
+        ensures value { result ≡ history_bytes self.now }
+        ensures below { result < 2 ^ 35 }
+    {
+        self.command.len() as u64
+            + self.cwd.len() as u64
+            + self.session.len() as u64
+            + self.hostname.len() as u64
+            + author_len(&self.author)
+    }
+
     /// An equal value.
     ///
     /// # Errors
@@ -45,7 +61,29 @@ impl History {
             session: self.session.copy(alloc)?,
             hostname: self.hostname.copy(alloc)?,
             deleted_at: self.deleted_at,
+            author: copy_author(alloc, &self.author)?,
         })
+    }
+}
+
+/// The length of an author, 0 where there is none.
+fn author_len(author: &Option<Text>) -> u64
+    ensures value { result ≡ author_bytes author.now }
+    ensures below { result < 2 ^ 32 }
+{
+    match author {
+        Some(text) => text.len() as u64,
+        None => 0,
+    }
+}
+
+/// An equal author, or none where there is none.
+fn copy_author(alloc: Global, author: &Option<Text>) -> Result<Option<Text>, NoMemory>
+    ensures { IfOk result (λ a. a ≡ author.now) }
+{
+    match author {
+        Some(text) => Ok(Some(text.copy(alloc)?)),
+        None => Ok(None),
     }
 }
 

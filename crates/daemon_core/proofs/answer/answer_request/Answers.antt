@@ -1,5 +1,6 @@
 use Rattle.std.proofs.Common.{subst}
-use Rattle.record_model.specs.Seen.{mode_seen, reply_seen}
+use Rattle.record_model.specs.Seen.{mode_seen}
+use Rattle.daemon_core.specs.Answers.{reply_seen}
 use Rattle.daemon_core.specs.Requests.{HasTexts, start_asked, end_asked}
 use Rattle.daemon_core.proofs.Requests.{answers_start, answers_end, answers_search, spelled_as}
 use Rattle.daemon_core.proofs.answer.answer_request.Goals as goal

@@ -1,5 +1,6 @@
 use Rattle.std.proofs.Common.{refl, sym, ◌∙◌}
-use Rattle.record_model.specs.Seen.{reply_seen, started_seen, history_seen}
+use Rattle.record_model.specs.Seen.{started_seen, history_seen}
+use Rattle.daemon_core.specs.Answers.{reply_seen}
 use Rattle.daemon_core.specs.Entries.{entries_seen}
 use Rattle.daemon_core.proofs.Steps.{ends_unbegun, ends_again, ends_short, ends_stored}
 use Rattle.daemon_core.proofs.step.end.Goals as goal

@@ -1,4 +1,5 @@
-use Rattle.record_model.specs.Seen.{mode_seen, reply_seen, histories_seen}
+use Rattle.record_model.specs.Seen.{mode_seen, histories_seen}
+use Rattle.daemon_core.specs.Answers.{reply_seen}
 use Rattle.daemon_core.specs.Entries.{entries_seen}
 use Rattle.daemon_core.proofs.Steps.{search_done, search_refused, counted_hits}
 use Rattle.daemon_core.proofs.SearchLaws.{seen_count}

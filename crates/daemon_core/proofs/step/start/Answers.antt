@@ -1,5 +1,5 @@
 use Rattle.std.proofs.Common.{refl, sym, ◌∙◌}
-use Rattle.record_model.specs.Seen.{reply_seen}
+use Rattle.daemon_core.specs.Answers.{reply_seen}
 use Rattle.daemon_core.proofs.Steps.{starts_failed, starts_taken, starts_short, starts_done}
 use Rattle.daemon_core.proofs.step.start.Goals as goal
 

@@ -1,4 +1,5 @@
-use Rattle.record_model.specs.Seen.{reply_seen, history_seen}
+use Rattle.record_model.specs.Seen.{history_seen}
+use Rattle.daemon_core.specs.Answers.{reply_seen}
 use Rattle.daemon_core.specs.Entries.{entries_seen}
 use Rattle.daemon_core.proofs.Steps.{stores_done, stores_not}
 use Rattle.daemon_core.proofs.step.store.Goals as goal

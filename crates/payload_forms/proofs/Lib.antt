@@ -1,0 +1,6 @@
+pub mod ItemLaws
+pub mod HistoryLaws
+pub mod PayloadLaws
+mod TellingLaws
+mod TotalLaws
+mod WrittenLaws

@@ -1,0 +1,221 @@
+//! The view of the commands that ended.
+
+ghost use Rattle.std.specs.Prelude.{◌≡◌, ℕ, List, [], ◌∷◌, IfOk};
+ghost use Rattle.payload_rules.specs.Payloads.{Payload, HistoryCreate, HistoryDelete};
+ghost use Rattle.record_model.specs.Seen.{history_seen};
+ghost use Rattle.view_rules.specs.Changes.{Change};
+ghost use Rattle.history_view.specs.ViewState.{ViewState, standing_in, Means};
+ghost use Rattle.history_view.specs.Rooms.{IsReady, KeepsRooms};
+ghost use Rattle.history_view.specs.Texts.{KeepsTexts};
+ghost use Rattle.history_view.specs.Rows.{HasTexts, command_of, HasAuthor, author_of};
+ghost use Rattle.history_view.specs.Walk.{walked_in, shown_command, newest_of, IsRow, StandInOrder, AreShown};
+ghost use Rattle.std.specs.List.{AllByRecursion};
+ghost use Rattle.std.specs.List.Sorted.{IsSortedBy};
+ghost use Rattle.definitions.specs.Search.{is_shown_before};
+ghost use Rattle.definitions.specs.Journal.{HaveDistinctIds};
+ghost use Rattle.history_view.specs.Shown.{command_seen};
+ghost use Rattle.std.specs.Option.{option_map};
+
+use crate::dictionary::Dictionary;
+use crate::places::{Ids, Order, change, held, make_id, make_key};
+use crate::room::Room;
+use crate::rows::Creation;
+use crate::shown::ShownCommand;
+use crate::walk::Newest;
+use plain_types::{NoMemory, Text};
+use record_model::History;
+use std::alloc::Global;
+use std::cmp::Reverse;
+use std::collections::{BTreeMap, HashMap};
+use std::marker::Model;
+
+/// The commands that ended.
+#[derive(Drop)]
+pub struct HistoryView {
+    texts: Dictionary,
+    ids: Ids,
+    order: Order,
+}
+
+impl Model for HistoryView {
+    ghost use Rattle.history_view.specs.ViewState.{ViewState, IsSound};
+
+    ghost Value = { ViewState };
+
+    ghost view = { λ v. record { texts = v.texts; ids = v.ids.entries; order = v.order.entries } };
+
+    ghost invariant = { λ v. IsSound (record { texts = v.texts; ids = v.ids.entries; order = v.order.entries }) };
+}
+
+impl HistoryView {
+    /// The view of no changes. It takes no memory.
+    pub fn new(alloc: Global) -> HistoryView
+        ensures { Means result [] }
+    {
+        HistoryView {
+            texts: Dictionary::new(alloc),
+            ids: HashMap::new(alloc),
+            order: BTreeMap::new(alloc),
+        }
+    }
+
+    /// Makes a room ready for a creation of this command.
+    ///
+    /// # Errors
+    ///
+    /// [`NoMemory`]. The view means what it meant.
+    pub fn reserve_creation(&mut self, alloc: Global, h: &History) -> Result<Room, NoMemory>
+        ensures ready { IfOk result (λ room. IsReady self.new room (HistoryCreate (history_seen h.now))) }
+        ensures same { (id : ℕ) → standing_in self.new id ≡ standing_in self.old id }
+        ensures rooms { KeepsRooms self.old self.new }
+    {
+        let creation = number_texts(&mut self.texts, alloc, h)?;
+        make_id(&mut self.ids, h.id)?;
+        make_key(&mut self.order, (Reverse(h.timestamp), h.id))?;
+        Ok(Room::Creates(h.id, creation))
+    }
+
+    /// Makes a room ready for a deletion of this id.
+    ///
+    /// # Errors
+    ///
+    /// [`NoMemory`]. The view means what it meant.
+    pub fn reserve_deletion(&mut self, id: u128) -> Result<Room, NoMemory>
+        ensures ready { IfOk result (λ room. IsReady self.new room (HistoryDelete id)) }
+        ensures same { (id : ℕ) → standing_in self.new id ≡ standing_in self.old id }
+        ensures rooms { KeepsRooms self.old self.new }
+    {
+        make_id(&mut self.ids, id)?;
+        Ok(Room::Deletes(id))
+    }
+
+    /// The command that is shown of the id. It takes no memory.
+    pub fn get(&self, id: u128) -> Option<ShownCommand<'_>>
+        ensures { option_map command_seen result ≡ shown_command self.now id }
+    {
+        let held = held(&self.ids, id);
+        match held.shown() {
+            None => None,
+            Some(c) => Some(lend(&self.texts, id, &c)),
+        }
+    }
+
+    /// Whether the id is dead. It takes no memory.
+    pub fn is_dead(&self, id: u128) -> bool
+        ensures { result ≡ (standing_in self.now id).dead }
+    {
+        held(&self.ids, id).dead
+    }
+
+    /// The texts that have numbers.
+    pub fn texts(&self) -> &Dictionary
+        ensures { result.now ≡ self.now.texts }
+    {
+        &self.texts
+    }
+
+    /// The commands that are shown, the newest first, and of those of one time the one with the least id first.
+    pub fn newest(&self) -> Newest<'_>
+        ensures walked { walked_in result.inner ≡ walked_in self.now.order }
+        ensures rows { AllByRecursion (IsRow self.now) (walked_in self.now.order) }
+        ensures in_order { StandInOrder (newest_of self.now) }
+        ensures sorted { IsSortedBy is_shown_before (newest_of self.now) }
+        ensures own { HaveDistinctIds (λ h. h.id) (newest_of self.now) }
+        ensures shown { AreShown self.now (newest_of self.now) }
+    {
+        Newest {
+            inner: self.order.iter(),
+        }
+    }
+
+    /// Places what the room holds, as the change at this host and idx. It takes no memory.
+    pub fn add(&mut self, host: u128, idx: u64, room: Room)
+        requires { (payload : Payload) × IsReady self.old room payload }
+        ensures grows { (payload : Payload) (changes : List Change) (timestamp : ℕ) → IsReady self.old room payload → Means self.old changes → Means self.new (record { host = host; idx = idx; timestamp = timestamp; payload = payload } ∷ changes) }
+        ensures rooms { KeepsRooms self.old self.new }
+    {
+        match room {
+            Room::Creates(id, creation) => {
+                let placed = creation.placed(host, idx);
+                let new = held(&self.ids, id).after_creation(placed);
+                change(&mut self.ids, &mut self.order, id, new);
+            }
+            Room::Deletes(id) => {
+                let new = held(&self.ids, id).after_deletion();
+                change(&mut self.ids, &mut self.order, id, new);
+            }
+        }
+    }
+}
+
+/// The command in numbers, but for where it stands.
+fn number_texts(texts: &mut Dictionary, alloc: Global, h: &History) -> Result<Creation, NoMemory>
+    ensures keeps { KeepsTexts texts.old texts.new }
+    ensures has { IfOk result (λ c. HasTexts texts.new c) }
+    ensures means { IfOk result (λ c. command_of texts.new h.now.id c ≡ history_seen h.now) }
+{
+    let command = texts.number(alloc, h.command.as_bytes())?;
+    let cwd = texts.number(alloc, h.cwd.as_bytes())?;
+    let session = texts.number(alloc, h.session.as_bytes())?;
+    let hostname = texts.number(alloc, h.hostname.as_bytes())?;
+    let author = number_author(texts, alloc, &h.author)?;
+    Ok(Creation {
+        host: 0,
+        idx: 0,
+        timestamp: h.timestamp,
+        duration: h.duration,
+        exit: h.exit,
+        deleted_at: h.deleted_at,
+        command,
+        cwd,
+        session,
+        hostname,
+        author,
+    })
+}
+
+/// The command with its texts.
+fn lend<'a>(texts: &'a Dictionary, id: u128, c: &Creation) -> ShownCommand<'a>
+    requires { HasTexts texts.now c.now }
+    ensures { command_seen result ≡ command_of texts.now id c.now }
+{
+    ShownCommand {
+        id,
+        timestamp: c.timestamp,
+        duration: c.duration,
+        exit: c.exit,
+        command: texts.text(c.command),
+        cwd: texts.text(c.cwd),
+        session: texts.text(c.session),
+        hostname: texts.text(c.hostname),
+        deleted_at: c.deleted_at,
+        author: lend_author(texts, c.author),
+    }
+}
+
+/// The number of the author, where there is one.
+fn number_author(
+    texts: &mut Dictionary,
+    alloc: Global,
+    author: &Option<Text>,
+) -> Result<Option<u32>, NoMemory>
+    ensures keeps { KeepsTexts texts.old texts.new }
+    ensures has { IfOk result (λ n. HasAuthor texts.new n) }
+    ensures means { IfOk result (λ n. author_of texts.new n ≡ author.now) }
+{
+    match author {
+        Some(author) => Ok(Some(texts.number(alloc, author.as_bytes())?)),
+        None => Ok(None),
+    }
+}
+
+/// The author's text, where there is one.
+fn lend_author(texts: &Dictionary, author: Option<u32>) -> Option<&[u8]>
+    requires { HasAuthor texts.now author }
+    ensures { option_map (λ a. a.now) result ≡ author_of texts.now author }
+{
+    match author {
+        Some(number) => Some(texts.text(number)),
+        None => None,
+    }
+}

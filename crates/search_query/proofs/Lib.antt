@@ -1,0 +1,4 @@
+pub mod Walks
+pub mod Memos
+pub mod Needles
+pub mod Answering

@@ -1,0 +1,17 @@
+use Rattle.std.proofs.Common.{Some, None, ◌∙◌, ap}
+use Rattle.search_query.proofs.Memos.{read_at, remembers_more, and_unseen}
+use Rattle.search_query.proofs.memo.matches.Goals as goal
+
+pub returns-in-Some-clause-matches : goal.returns-in-Some-clause-matches
+returns-in-Some-clause-matches c = λ seen rem.
+    rem c.args.number (Some c.in-Some.known) c.args.command.now (read_at c.args.memo.now.items c.args.view.now.texts c.args.number c.args.command.now c.index.result.now c.requires.named c.requires.long c.index.ensures ∙ ap Some c.in-Some.is) c.requires.named
+
+pub returns-in_ok-known-in-None-clause-matches : goal.returns-in_ok-known-in-None-clause-matches
+returns-in_ok-known-in-None-clause-matches c = λ seen rem.
+    let none = rem c.args.number None c.args.command.now (read_at c.args.memo.now.items c.args.view.now.texts c.args.number c.args.command.now c.index.result.now c.requires.named c.requires.long c.index.ensures ∙ ap Some c.in-None.is) c.requires.named in
+    c.in_ok-known-in-None.ensures ∙ and_unseen _ _ none
+
+pub returns-in_ok-known-in-None-clause-memo : goal.returns-in_ok-known-in-None-clause-memo
+returns-in_ok-known-in-None-clause-memo c = λ seen rem.
+    let none = rem c.args.number None c.args.command.now (read_at c.args.memo.now.items c.args.view.now.texts c.args.number c.args.command.now c.index.result.now c.requires.named c.requires.long c.index.ensures ∙ ap Some c.in-None.is) c.requires.named in
+    remembers_more c.args.view.now.texts _ seen c.args.memo.now.items c.args.number c.args.command.now c.in_ok-known-in-None.known c.requires.named (c.in_ok-known-in-None.ensures ∙ and_unseen _ _ none) rem

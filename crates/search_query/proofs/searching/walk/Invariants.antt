@@ -1,0 +1,6 @@
+use Rattle.history_view.specs.Walk.{walked_in}
+use Rattle.search_query.specs.Answers.{IsOnWay}
+use Rattle.search_query.proofs.searching.walk.Given as goal
+
+abbrev pub invariant-loop-walked : goal.invariant-loop-walked
+invariant-loop-walked l = IsOnWay l.query l.view (walked_in l.view.order) (walked_in l.walked-iterator.inner) l.memo.items l.hits.items l.bytes l.skip l.fn.steps l.steps

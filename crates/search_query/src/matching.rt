@@ -1,0 +1,103 @@
+//! Whether a command matches the text of a query.
+
+ghost use Rattle.std.specs.Prelude.{◌≡◌, IfOk, map, eqb};
+ghost use Rattle.std.specs.Char.{is_ascii_uppercase, to_ascii_lowercase};
+ghost use Rattle.std.specs.List.{list_any};
+ghost use Rattle.definitions.specs.Search.{matches_by, stands_in};
+ghost use Rattle.record_model.specs.Seen.{mode_seen};
+ghost use Rattle.search_query.specs.Matching.{matched};
+
+use memchr::memmem::Finder;
+use plain_types::NoMemory;
+use record_model::Mode;
+use std::alloc::Global;
+use std::marker::Model;
+
+/// The text of a query, ready to be looked for: a text without ASCII capitals is compared with a
+/// command's ASCII letters folded, any other exactly. The finder is made once for all commands.
+#[derive(Drop)]
+pub struct Matching<'a> {
+    mode: Mode,
+    is_exact: bool,
+    text: &'a [u8],
+    finder: Finder<'a>,
+}
+
+impl<'a> Model for Matching<'a> {
+    ghost use Rattle.std.specs.Prelude.{◌≡◌};
+    ghost use Rattle.std.specs.List.{list_any};
+    ghost use Rattle.std.specs.Char.{is_ascii_uppercase};
+    ghost use Rattle.record_model.specs.Seen.{mode_seen};
+    ghost use Rattle.search_query.specs.Matching.{Wanted};
+
+    ghost Value = { Wanted };
+
+    ghost view = { λ m. record { mode = mode_seen m.mode; text = m.text.now } };
+
+    ghost invariant = { λ m. (m.finder ≡ m.text.now) × (m.is_exact ≡ list_any is_ascii_uppercase m.text.now) };
+}
+
+impl<'a> Matching<'a> {
+    /// The text of a query in this mode. It takes no memory.
+    pub fn new(mode: Mode, text: &'a [u8]) -> Matching<'a>
+        ensures { result ≡ record { mode = mode_seen mode; text = text.now } }
+    {
+        Matching {
+            mode,
+            is_exact: has_capital(text),
+            text,
+            finder: Finder::new(text),
+        }
+    }
+
+    /// Whether the command matches. The empty text matches every command.
+    ///
+    /// # Errors
+    ///
+    /// [`NoMemory`], where the command's letters are to be folded.
+    pub fn matches(&self, alloc: Global, command: &[u8]) -> Result<bool, NoMemory>
+        ensures { IfOk result (λ b. b ≡ matches_by self.now.mode self.now.text command.now) }
+    {
+        if self.is_exact {
+            return Ok(is_match(self.mode, &self.finder, self.text, command));
+        }
+        let folded = folded(alloc, command)?;
+        Ok(is_match(self.mode, &self.finder, self.text, folded.as_slice()))
+    }
+}
+
+/// Whether a byte of the text is an ASCII capital.
+fn has_capital(text: &[u8]) -> bool
+    ensures { result ≡ list_any is_ascii_uppercase text.now }
+{
+    text.iter().any(|byte| byte.is_ascii_uppercase())
+}
+
+/// The text with its ASCII letters folded to lower case.
+fn folded(alloc: Global, text: &[u8]) -> Result<Vec<u8>, NoMemory>
+    ensures { IfOk result (λ v. v.items ≡ map to_ascii_lowercase text.now) }
+{
+    Ok(
+        text.iter()
+            .map(|byte| byte.to_ascii_lowercase())
+            .collect(alloc)?,
+    )
+}
+
+/// Whether the text begins the command, or stands in it.
+fn is_match(mode: Mode, finder: &Finder<'_>, text: &[u8], command: &[u8]) -> bool
+    requires { finder.now ≡ text.now }
+    ensures { result ≡ matched (mode_seen mode) text.now command.now }
+{
+    match mode {
+        Mode::Prefix => command.starts_with(text),
+        Mode::Substring => contains(finder, command),
+    }
+}
+
+/// Whether what is looked for stands in the command.
+fn contains(finder: &Finder<'_>, command: &[u8]) -> bool
+    ensures { result ≡ stands_in finder.now command.now }
+{
+    finder.find(command).is_some()
+}

@@ -1,0 +1,4 @@
+pub mod Fails
+pub mod Answers
+pub mod Headers
+pub mod Digests

@@ -5,10 +5,6 @@ use Rattle.base64.specs.GeneralPurpose.{IsBytes}
 use Rattle.paseto_seal.specs.Base64Url.{base64url, Carries}
 use Rattle.paseto_seal.specs.Token.{token_header, token_secrets, token_auth_key, token_cipher, token_tag, token_body, token, IsTokenForm, Opens}
 use Rattle.paseto_seal.specs.Pae.{pae}
-use Rattle.paseto_seal.specs.Fails.{token_fail}
-use Rattle.paseto_seal.specs.declared.carried.CarryFail.{CarryFail}
-use Rattle.paseto_seal.specs.declared.carried.CarryFail.TheVariants.{NotCarried, NoMemory}
-use Rattle.paseto_seal.specs.declared.fail.TokenFail.TheVariants.{NoMemory as TokenNoMemory}
 use Rattle.xchacha_core.proofs.StreamLaws.{length-xchacha20, xchacha20-bytes, xchacha20-xchacha20}
 use Rattle.paseto_seal.proofs.Bytes.{append_bytes, front_bytes, back_bytes}
 use Rattle.paseto_seal.proofs.Base64UrlLaws.{carries_one, length-base64url}
@@ -47,7 +43,7 @@ length-token_body key nonce message implicit =
     omega (arith, length-append nonce (cipher ++ tag), length-append cipher tag, length-token_cipher key nonce message, length-token_tag key nonce cipher implicit)
 
 -- a token carries its body
-opens_carries : (key text implicit message : List ℕ) → (o : Opens key text implicit message)
+pub opens_carries : (key text implicit message : List ℕ) → (o : Opens key text implicit message)
     → Carries token_header text (token_body key o.nonce message implicit)
 unfolding token
 opens_carries key text implicit message o = record {
@@ -66,6 +62,11 @@ opens_form key text implicit message o = record {
 -- what a text carries decides whether it has the form
 pub form_of_carried : (text body : List ℕ) → Carries token_header text body → 64 ≤ length body → IsTokenForm text
 form_of_carried text body carried long = record { body = body; carried = carried; long = long }
+
+pub form_long : (text body : List ℕ) → Carries token_header text body → IsTokenForm text → 64 ≤ length body
+form_long text body carried form =
+    let same = carries_one token_header text form.body body form.carried carried in
+    omega (arith, form.long, ap length same)
 
 pub too_short : (text body : List ℕ) → Carries token_header text body → length body < 64 → ¬ IsTokenForm text
 too_short text body carried short form =
@@ -119,10 +120,10 @@ opens_one key text implicit message body nonce cipher tag carried body_is nonce_
     let parts = opens_parts key text implicit message body nonce cipher tag o carried body_is nonce_long tag_long in
     rw (parts.0, parts.1) (token_cipher_twice key o.nonce message)
 
--- a text that carries nothing opens to nothing
-pub carries_nothing : (key text implicit : List ℕ) (fail : CarryFail)
-    → (fail ≡ NotCarried → (body : List ℕ) → ¬ Carries token_header text body)
-    → (message : List ℕ) → Opens key text implicit message → token_fail fail ≡ TokenNoMemory
-carries_nothing key text implicit NotCarried nothing message o =
-    absurd (nothing refl (token_body key o.nonce message implicit) (opens_carries key text implicit message o))
-carries_nothing key text implicit NoMemory nothing message o = refl
+-- a text opens to one message
+pub opens_same : (key text implicit message other : List ℕ) → Opens key text implicit message → Opens key text implicit other → message ≡ other
+opens_same key text implicit message other o p =
+    let cipher = token_cipher key o.nonce message in
+    sym (token_cipher_twice key o.nonce message)
+    ∙ opens_one key text implicit other (token_body key o.nonce message implicit) o.nonce cipher (token_tag key o.nonce cipher implicit)
+    (opens_carries key text implicit message o) refl o.nonce_length (length-token_tag key o.nonce cipher implicit) p

@@ -1,16 +1,16 @@
 -- What stands behind a wrap's header, and that it has one reading.
-use Rattle.std.proofs.Common.{◌≡◌, ℕ, ◌+◌, List, ◌++◌, length, take, drop, ◌∙◌, sym, ap, subst, arith, refl, lit≤}
+use Rattle.std.proofs.Common.{◌≡◌, ℕ, ◌+◌, List, ◌++◌, length, take, drop, ◌∙◌, sym, ap, subst, arith, refl, lit≤, Err}
 use Rattle.std.proofs.lemmas.List.{length-append}
 use Rattle.base64.specs.GeneralPurpose.{IsBytes}
 use Rattle.paseto_seal.specs.Base64Url.{base64url, Carries}
 use Rattle.paseto_seal.specs.Wrap.{wrap_header, wrap_secrets, wrap_auth_key, wrap_cipher, wrap_tag, wrap_body, wrap, IsWrapForm, Unwraps}
 use Rattle.paseto_seal.specs.Fails.{wrap_fail}
+use Rattle.paseto_seal.specs.Opening.{UnwrapsKey}
 use Rattle.paseto_seal.specs.declared.carried.CarryFail.{CarryFail}
 use Rattle.paseto_seal.specs.declared.carried.CarryFail.TheVariants.{NotCarried, NoMemory}
-use Rattle.paseto_seal.specs.declared.fail.WrapFail.TheVariants.{NotWrapped, NoMemory as WrapNoMemory}
 use Rattle.xchacha_core.proofs.StreamLaws.{length-xchacha20, xchacha20-bytes, xchacha20-xchacha20}
 use Rattle.paseto_seal.proofs.Bytes.{append_bytes, front_bytes, back_bytes}
-use Rattle.paseto_seal.proofs.Base64UrlLaws.{carries_one}
+use Rattle.paseto_seal.proofs.Base64UrlLaws.{carries_one, length-base64url}
 use Rattle.paseto_seal.proofs.HashLaws.{length-blake2b, blake2b_bytes}
 use Rattle.paseto_seal.proofs.Parts.{same_parts}
 
@@ -27,7 +27,7 @@ wrap_cipher_twice by nonce key = xchacha20-xchacha20 (take 32 (wrap_secrets by n
 wrap_cipher_bytes : (by nonce key : List ℕ) → IsBytes key → IsBytes (wrap_cipher by nonce key)
 wrap_cipher_bytes by nonce key are = xchacha20-bytes (take 32 (wrap_secrets by nonce)) (drop 32 (wrap_secrets by nonce)) key are
 
-wrap_body_bytes : (by nonce key : List ℕ) → IsBytes nonce → IsBytes key → IsBytes (wrap_body by nonce key)
+pub wrap_body_bytes : (by nonce key : List ℕ) → IsBytes nonce → IsBytes key → IsBytes (wrap_body by nonce key)
 wrap_body_bytes by nonce key nonce_are key_are =
     let cipher = wrap_cipher by nonce key in
     append_bytes (wrap_tag by nonce cipher) (nonce ++ cipher)
@@ -41,7 +41,7 @@ length-wrap_body by nonce key =
     omega (arith, length-append tag (nonce ++ cipher), length-append nonce cipher, length-wrap_cipher by nonce key, length-wrap_tag by nonce cipher)
 
 -- a wrap carries its body
-unwraps_carries : (by text key : List ℕ) → (u : Unwraps by text key) → Carries wrap_header text (wrap_body by u.nonce key)
+pub unwraps_carries : (by text key : List ℕ) → (u : Unwraps by text key) → Carries wrap_header text (wrap_body by u.nonce key)
 unfolding wrap
 unwraps_carries by text key u = record {
   body_bytes = wrap_body_bytes by u.nonce key u.nonce_bytes u.key_bytes;
@@ -60,9 +60,17 @@ unwraps_form by text key u = record {
 pub form_of_carried : (text body : List ℕ) → Carries wrap_header text body → length body ≡ 96 → IsWrapForm text
 form_of_carried text body carried whole = record { body = body; carried = carried; whole = whole }
 
-pub other_length : (text body : List ℕ) → Carries wrap_header text body → ¬ (length body ≡ 96) → ¬ IsWrapForm text
-other_length text body carried other form =
-    other (ap length (carries_one wrap_header text body form.body carried form.carried) ∙ form.whole)
+-- a wrap has 146 characters, and a text of so many carries 96 bytes, if it carries any
+pub form_length : (text : List ℕ) → IsWrapForm text → length text ≡ 146
+form_length text form =
+    omega (arith, ap length form.carried.text_is, length-append wrap_header (base64url form.body), length-base64url form.body, form.whole)
+
+pub carried_length : (text body : List ℕ) → Carries wrap_header text body → length text ≡ 146 → length body ≡ 96
+carried_length text body carried whole =
+    omega (arith, ap length carried.text_is, length-append wrap_header (base64url body), length-base64url body)
+
+pub form_whole : (text body : List ℕ) → Carries wrap_header text body → IsWrapForm text → length body ≡ 96
+form_whole text body carried form = carried_length text body carried (form_length text form)
 
 -- a text whose tag is that of its nonce and ciphertext unwraps to the ciphertext deciphered
 pub tag_unwraps : (by text body tag nonce cipher : List ℕ) → Carries wrap_header text body → body ≡ tag ++ (nonce ++ cipher)
@@ -108,14 +116,16 @@ unwraps_one by text key body tag nonce cipher carried body_is tag_long nonce_lon
     let parts = unwraps_parts by text key body tag nonce cipher u carried body_is tag_long nonce_long in
     rw (parts.1, parts.2) (wrap_cipher_twice by u.nonce key)
 
--- a text that carries nothing unwraps to nothing, and has not the form of a wrap
-pub carries_nothing : (by text : List ℕ) (fail : CarryFail)
-    → (fail ≡ NotCarried → (body : List ℕ) → ¬ Carries wrap_header text body)
-    → (key : List ℕ) → Unwraps by text key → wrap_fail fail ≡ WrapNoMemory
-carries_nothing by text NotCarried nothing key u = absurd (nothing refl (wrap_body by u.nonce key) (unwraps_carries by text key u))
-carries_nothing by text NoMemory nothing key u = refl
+-- a wrap unwraps to one key
+pub unwraps_same : (by text key other : List ℕ) → Unwraps by text key → Unwraps by text other → key ≡ other
+unwraps_same by text key other u v =
+    let cipher = wrap_cipher by u.nonce key in
+    sym (wrap_cipher_twice by u.nonce key)
+    ∙ unwraps_one by text other (wrap_body by u.nonce key) (wrap_tag by u.nonce cipher) u.nonce cipher
+    (unwraps_carries by text key u) refl (length-wrap_tag by u.nonce cipher) u.nonce_length v
 
-pub no_form : (text : List ℕ) (fail : CarryFail) → (fail ≡ NotCarried → (body : List ℕ) → ¬ Carries wrap_header text body)
-    → wrap_fail fail ≡ NotWrapped → ¬ IsWrapForm text
-no_form text NotCarried nothing is form = nothing refl form.body form.carried
-no_form text NoMemory nothing is form = cc is
+-- what a text that carries nothing is called
+pub carries_nothing : (by text : List ℕ) (fail : CarryFail)
+    → (fail ≡ NotCarried → (body : List ℕ) → ¬ Carries wrap_header text body) → UnwrapsKey by text (Err (wrap_fail fail))
+carries_nothing by text NotCarried nothing = λ form. nothing refl form.body form.carried
+carries_nothing by text NoMemory nothing = tt

@@ -4,3 +4,5 @@ pub mod Token
 pub mod Wrap
 pub mod KeyId
 pub mod Fails
+pub mod Opening
+pub mod Laws

@@ -58,6 +58,17 @@ fn tokens_both_ways(rt: HostRuntime) -> Result<(), Fail> {
     Ok(())
 }
 
+#[test]
+fn token_of_a_mebibyte(rt: HostRuntime) -> Result<(), Fail> {
+    let message = vec![in rt.alloc(); 0x5au8; 1 << 20]?;
+    assert!(rt; message.len() < 1 << 21);
+    let locked = lock_token(rt.alloc(), &KEY, &NONCE, &message, ASSERTION)?;
+    assert_eq!(rt; locked.len(), 9 + 1_398_187);
+    let opened = open_token(rt.alloc(), &KEY, locked.as_bytes(), ASSERTION)?;
+    assert_eq!(rt; opened.as_slice(), message.as_slice());
+    Ok(())
+}
+
 // Texts that are no token under the key and the assertion, and what each is called.
 const NO_TOKENS: [(&[u8], TokenFail); 10] = [
     // one of the four spare bits of the last digit set

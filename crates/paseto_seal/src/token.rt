@@ -1,7 +1,8 @@
 // PASETO v4.local tokens.
 
-ghost use Rattle.std.specs.Prelude.{◌≡◌, ◌<◌, ◌≤◌, ◌+◌, ◌^◌, ◌++◌, ℕ, List, length, IfOk, IsErrOf, MatchResult};
-ghost use Rattle.paseto_seal.specs.Token.{token_cipher, token_tag, token_body, token, IsTokenForm, Opens};
+ghost use Rattle.std.specs.Prelude.{◌≡◌, ◌<◌, ◌≤◌, ◌-◌, ◌^◌, ◌++◌, length, take, drop, IfOk};
+ghost use Rattle.paseto_seal.specs.Token.{token_cipher, token_tag, token_body, token};
+ghost use Rattle.paseto_seal.specs.Opening.{OpensToken};
 
 use crate::carried::{carried, carry};
 use crate::cipher::apply_cipher;
@@ -15,16 +16,24 @@ use std::alloc::Global;
 
 const TOKEN_HEADER: &str = "v4.local.";
 
-/// A copy of the text, xored with the key stream of a token: a message's ciphertext, or a ciphertext's message.
-fn ciphered(alloc: Global, key: &[u8; 32], nonce: &[u8], text: &[u8]) -> Result<Vec<u8>, NoMemory>
-    requires { length text.now < 2 ^ 32 }
-    ensures { IfOk result (λ copy. copy.items ≡ token_cipher key.now nonce.now text.now) }
+/// Xors a text with the key stream of a token: a message becomes its ciphertext, a ciphertext its message.
+fn apply_token_cipher(key: &[u8; 32], nonce: &[u8; 32], text: &mut [u8])
+    requires { length text.old < 2 ^ 32 }
+    ensures { text.new ≡ token_cipher key.now nonce.now text.old }
 {
     let mut secrets = [0u8; 56];
     hash_pieces(key, &[b"paseto-encryption-key", nonce], &mut secrets);
-    let mut copy = Vec::from_slice(alloc, text)?;
-    apply_cipher(&secrets, &mut copy);
-    Ok(copy)
+    apply_cipher(&secrets, text);
+}
+
+/// Enciphers what stands behind a nonce.
+fn encipher_behind_nonce(key: &[u8; 32], nonce: &[u8; 32], body: &mut [u8])
+    requires long { 32 ≤ length body.old }
+    requires short { length body.old < 2 ^ 32 }
+    ensures front { take 32 body.new ≡ take 32 body.old }
+    ensures cipher { drop 32 body.new ≡ token_cipher key.now nonce.now (drop 32 body.old) }
+{
+    apply_token_cipher(key, nonce, &mut body[NONCE_BYTES..]);
 }
 
 /// The tag of a token.
@@ -53,11 +62,11 @@ fn token_body(
     requires { length message.now < 2 ^ 31 }
     ensures { IfOk result (λ body. body.items ≡ token_body key.now nonce.now message.now implicit.now) }
 {
-    let cipher = ciphered(alloc, key, nonce, message)?;
-    let tag = token_tag(key, nonce, cipher.as_slice(), implicit);
     let mut body = Vec::with_capacity(alloc, NONCE_BYTES + message.len() + TAG_BYTES)?;
     body.extend_from_slice(nonce)?;
-    body.extend_from_slice(cipher.as_slice())?;
+    body.extend_from_slice(message)?;
+    encipher_behind_nonce(key, nonce, &mut body);
+    let tag = token_tag(key, nonce, &body[NONCE_BYTES..], implicit);
     body.extend_from_slice(&tag)?;
     Ok(body)
 }
@@ -72,6 +81,30 @@ fn parts(body: &[u8]) -> (&[u8], &[u8], &[u8])
     let (nonce, rest) = body.split_at(NONCE_BYTES);
     let (cipher, tag) = rest.split_at(rest.len() - TAG_BYTES);
     (nonce, cipher, tag)
+}
+
+/// Leaves of the bytes behind a token's header the ciphertext alone.
+fn keep_cipher(body: &mut Vec<u8>)
+    requires { 64 ≤ length body.old.items }
+    ensures { body.new.items ≡ take (length body.old.items - 64) (drop 32 body.old.items) }
+{
+    let end = body.len() - TAG_BYTES;
+    body.copy_within(NONCE_BYTES..end, 0);
+    body.truncate(end - NONCE_BYTES);
+}
+
+/// The message in the bytes behind a token's header, deciphered where it stands.
+fn deciphered(key: &[u8; 32], mut body: Vec<u8>) -> Vec<u8>
+    requires long { 64 ≤ length body.items }
+    requires short { length body.items < 2 ^ 32 }
+    ensures { result.items ≡ token_cipher key.now (take 32 body.items) (take (length body.items - 64) (drop 32 body.items)) }
+{
+    let mut nonce = [0u8; NONCE_BYTES];
+    let (front, _) = body.as_slice().split_at(NONCE_BYTES);
+    nonce.copy_from_slice(front);
+    keep_cipher(&mut body);
+    apply_token_cipher(key, &nonce, &mut body);
+    body
 }
 
 /// The token of `message` under `key`, with `nonce` and the implicit assertion `implicit` (PASETO, Version 4, "Encrypt",
@@ -115,13 +148,7 @@ pub fn open_token(
     implicit: &[u8],
 ) -> Result<Bytes, TokenFail>
     requires { length token.now < 2 ^ 32 }
-    ensures ok { IfOk result (λ message. Opens key.now token.now implicit.now message.items) }
-    ensures opens { (message : List ℕ) → Opens key.now token.now implicit.now message
-        → MatchResult result (λ opened. opened.items ≡ message) (λ fail. fail ≡ TokenFail.NoMemory) }
-    ensures ok_form { IfOk result (λ _. IsTokenForm token.now) }
-    ensures not_token { IsErrOf result TokenFail.NotToken → ¬ IsTokenForm token.now }
-    ensures bad_tag { IsErrOf result TokenFail.BadTag
-        → IsTokenForm token.now × ((message : List ℕ) → ¬ Opens key.now token.now implicit.now message) }
+    ensures { OpensToken key.now token.now implicit.now result }
 {
     let body = carried(alloc, TOKEN_HEADER, token)?;
     if body.len() < NONCE_BYTES + TAG_BYTES {
@@ -132,8 +159,5 @@ pub fn open_token(
     if !same_tag(&expected, tag) {
         return Err(TokenFail::BadTag);
     }
-    match ciphered(alloc, key, nonce, cipher) {
-        Ok(message) => Ok(Bytes::from_vec(message)),
-        Err(NoMemory) => Err(TokenFail::NoMemory),
-    }
+    Ok(Bytes::from_vec(deciphered(key, body)))
 }

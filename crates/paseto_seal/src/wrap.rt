@@ -1,7 +1,8 @@
 // PASERK k4.local-wrap.pie wraps.
 
-ghost use Rattle.std.specs.Prelude.{◌≡◌, ◌<◌, ◌≤◌, ◌^◌, ◌++◌, ℕ, List, length, IfOk, IsErrOf, MatchResult};
-ghost use Rattle.paseto_seal.specs.Wrap.{wrap_cipher, wrap_tag, wrap_body, wrap, IsWrapForm, Unwraps};
+ghost use Rattle.std.specs.Prelude.{◌≡◌, ◌++◌, length, IfOk};
+ghost use Rattle.paseto_seal.specs.Wrap.{wrap_cipher, wrap_tag, wrap_body, wrap};
+ghost use Rattle.paseto_seal.specs.Opening.{UnwrapsKey};
 
 use crate::carried::{carried, carry};
 use crate::cipher::apply_cipher;
@@ -15,6 +16,9 @@ use std::alloc::Global;
 const WRAP_HEADER: &str = "k4.local-wrap.pie.";
 
 const BODY_BYTES: usize = TAG_BYTES + NONCE_BYTES + KEY_BYTES;
+
+// The header, and four characters for every three bytes behind it.
+const WRAP_CHARACTERS: usize = 18 + BODY_BYTES / 3 * 4;
 
 /// Xors a key with the key stream of a wrap, which turns a key into its ciphertext and back.
 fn apply_wrap_cipher(by: &[u8; 32], nonce: &[u8], key: &mut [u8; 32])
@@ -95,7 +99,8 @@ pub fn wrap_key(
 /// The key whose wrap under the key `by` this is (PASERK, local-wrap with the prefix pie). `text` is of any length. At
 /// most one key has the wrap.
 ///
-/// The code compares the tag whole, and deciphers nothing before it is found equal; no clause says so.
+/// The code looks at the text's length before it decodes anything, compares the tag whole, and deciphers nothing before
+/// it is found equal; no clause says so.
 ///
 /// # Errors
 ///
@@ -104,18 +109,12 @@ pub fn wrap_key(
 /// - [`WrapFail::BadTag`] exactly where it is, and no key has it as its wrap under `by`.
 /// - [`WrapFail::NoMemory`], in place of any other answer.
 pub fn unwrap_key(alloc: Global, by: &[u8; 32], text: &[u8]) -> Result<[u8; 32], WrapFail>
-    ensures ok { IfOk result (λ key. Unwraps by.now text.now key) }
-    ensures unwraps { (key : List ℕ) → Unwraps by.now text.now key
-        → MatchResult result (λ unwrapped. unwrapped ≡ key) (λ fail. fail ≡ WrapFail.NoMemory) }
-    ensures ok_form { IfOk result (λ _. IsWrapForm text.now) }
-    ensures not_wrapped { IsErrOf result WrapFail.NotWrapped → ¬ IsWrapForm text.now }
-    ensures bad_tag { IsErrOf result WrapFail.BadTag
-        → IsWrapForm text.now × ((key : List ℕ) → ¬ Unwraps by.now text.now key) }
+    ensures { UnwrapsKey by.now text.now result }
 {
-    let body = carried(alloc, WRAP_HEADER, text)?;
-    if body.len() != BODY_BYTES {
+    if text.len() != WRAP_CHARACTERS {
         return Err(WrapFail::NotWrapped);
     }
+    let body = carried(alloc, WRAP_HEADER, text)?;
     let (tag, nonce, cipher) = parts(body.as_slice());
     let expected = wrap_tag(by, nonce, cipher);
     if !same_tag(&expected, tag) {

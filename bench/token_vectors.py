@@ -4,60 +4,20 @@ proofs/Facts.antt, with what hashlib's BLAKE2b and libsodium's XChaCha20 (the pa
 and key ids by the PASETO and PASERK documents over these two. It shares no code with the crates. It names each value
 that is missing or differs, and exits with 1 where there is one."""
 import ast
-import base64
-import ctypes
-import ctypes.util
-import hashlib
 import pathlib
 import re
-import struct
 import sys
 
-sodium = ctypes.CDLL(ctypes.util.find_library('sodium') or 'libsodium.so.23')
+from paseto import blake2b, key_id, pae, token, wrap, xchacha20
+
 crates = pathlib.Path(__file__).resolve().parent.parent / 'crates'
 
 
-def b64(data):
-    return base64.urlsafe_b64encode(data).rstrip(b'=')
-
-
-def blake2b(size, key, text):
-    return hashlib.blake2b(text, digest_size=size, key=key).digest()
-
-
-def xchacha20(key, nonce, text):
-    out = ctypes.create_string_buffer(len(text))
-    sodium.crypto_stream_xchacha20_xor(out, text, ctypes.c_ulonglong(len(text)), nonce, key)
-    return out.raw
-
-
-def pae(*pieces):
-    encoded = struct.pack('<Q', len(pieces))
-    for piece in pieces:
-        encoded += struct.pack('<Q', len(piece)) + piece
-    return encoded
-
-
-def token(key, nonce, message, implicit):
-    header = b'v4.local.'
-    secrets = blake2b(56, key, b'paseto-encryption-key' + nonce)
-    auth_key = blake2b(32, key, b'paseto-auth-key-for-aead' + nonce)
-    cipher = xchacha20(secrets[:32], secrets[32:], message)
-    tag = blake2b(32, auth_key, pae(header, nonce, cipher, b'', implicit))
-    return header + b64(nonce + cipher + tag)
-
-
-def wrap(by, nonce, key):
-    header = b'k4.local-wrap.pie.'
-    secrets = blake2b(56, by, b'\x80' + nonce)
-    auth_key = blake2b(32, by, b'\x81' + nonce)
-    cipher = xchacha20(secrets[:32], secrets[32:], key)
-    tag = blake2b(32, auth_key, header + nonce + cipher)
-    return header + b64(tag + nonce + cipher)
-
-
-def key_id(key):
-    return b'k4.lid.' + b64(blake2b(33, b'', b'k4.lid.' + b'k4.local.' + b64(key)))
+def fnv_1a(data):
+    digest = 0xCBF29CE484222325
+    for byte in data:
+        digest = (digest ^ byte) * 0x100000001B3 % 2**64
+    return digest
 
 
 def numbers(text):
@@ -98,6 +58,10 @@ def streams():
     source = (crates / 'xchacha_core/src/tests.rt').read_text()
     key, nonce, text = (expected(source, name) for name in ('KEY', 'NONCE', 'TEXT'))
     yield 'SEALED', expected(source, 'SEALED'), key and nonce and text and xchacha20(key, nonce, text)
+    counted, nonce = expected(source, 'COUNTED_KEY'), expected(source, 'LONG_NONCE')
+    found = re.search(r'const DIGEST_OF_STREAM: u64 = (0x\w+);', source)
+    stream = counted and nonce and xchacha20(counted, nonce, bytes(1000))
+    yield 'DIGEST_OF_STREAM', found and int(found[1], 0), stream and fnv_1a(stream)
 
 
 def tokens():

@@ -1,16 +1,21 @@
-//! C exports of the hash and the cipher, for measuring alone: nothing stands on this crate.
+//! C exports of the hash, the cipher, the comparison of tags and the seals, for measuring alone: nothing stands on this
+//! crate.
 //!
-//! The model and the promise are those of `blake2b_core` and `xchacha_core`, on which it stands: where
-//! the lengths are in range an export leaves in its output what the crate's own call gives, and otherwise
-//! it leaves the output as it was. A slice comes from C as a pointer and a length.
+//! The model and the promise are those of `blake2b_core`, `xchacha_core`, `paseto_seal` and `record_seal`, on which it
+//! stands: where the lengths are in range an export leaves in its output what the crate's own call gives, and otherwise it
+//! leaves the output as it was. A slice comes from C as a pointer and a length. What wants memory takes it from the C
+//! library's `malloc`; its parameter `alloc` is no parameter in C.
 #![tactic(auto)]
 
-ghost use Rattle.std.specs.Prelude.{◌≡◌, ◌≢◌, ◌<◌, ◌≤◌, ◌^◌, length};
+ghost use Rattle.std.specs.Prelude.{◌≡◌, ◌≢◌, ◌↔◌, ◌<◌, ◌≤◌, ◌^◌, length};
 ghost use Rattle.blake2b_core.specs.Hash.{blake2b};
 ghost use Rattle.xchacha_core.specs.Stream.{xchacha20};
 
 use blake2b_core::Blake2b;
+use paseto_seal::same_tag;
 use xchacha_core::xchacha20_xor;
+
+mod sealing;
 
 /// The hash of `text` under `key` fills `out` (RFC 7693). `out` has 1 to 64 bytes and the key at most
 /// 64, none for a hash without a key; otherwise `out` stays as it was.
@@ -47,4 +52,15 @@ pub extern "C" fn bench_xchacha20_xor(key: &[u8], nonce: &[u8], buf: &mut [u8])
     let mut whole_nonce = [0; 24];
     whole_nonce.copy_from_slice(nonce);
     xchacha20_xor(&whole_key, &whole_nonce, buf);
+}
+
+/// 1 where two tags of one length are equal, else 0. What it does depends on their length alone.
+#[unsafe(no_mangle)]
+pub extern "C" fn bench_same_tag(expected: &[u8], found: &[u8]) -> u64
+    ensures { (result ≡ 1) ↔ (expected.now ≡ found.now) }
+{
+    if expected.len() != found.len() {
+        return 0;
+    }
+    u64::from(same_tag(expected, found))
 }

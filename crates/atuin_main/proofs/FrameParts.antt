@@ -3,7 +3,8 @@ use Rattle.std.proofs.Common.{◌≡◌, ℕ, ◌<◌, ◌≤◌, ◌^◌, List,
 use Rattle.std.specs.Int.{w32, to_be_bytes}
 use Rattle.std.proofs.lemmas.List.{length-take}
 use Rattle.std.proofs.lemmas.Nat.{from_be_bytes-to_be_bytes_4}
-use Rattle.definitions.specs.Frames.{most_payload_bytes, named_length, CutFrame, LongFrame}
+use Rattle.definitions.specs.Limits.{most_payload_bytes}
+use Rattle.definitions.specs.Frames.{named_length, CutFrame, LongFrame}
 use Rattle.at_edge.specs.Taking.{SourceSeen, Gave}
 use Rattle.at_edge.proofs.SourceLaws.{Gave-then}
 use Rattle.atuin_main.specs.declared.frames.FrameRead.{FrameRead}

@@ -4,7 +4,8 @@ use Rattle.std.specs.List.{All}
 use Rattle.std.specs.Io.KnownBytes.{Consumes, IsAtEnd}
 use Rattle.std.proofs.lemmas.List.{length-append, take_at}
 use Rattle.std.specs.Int.{w32, from_be_bytes}
-use Rattle.definitions.specs.Frames.{frames, most_payload_bytes, named_length, CutFrame, LongFrame, EndsStream, CutAfter}
+use Rattle.definitions.specs.Limits.{most_payload_bytes}
+use Rattle.definitions.specs.Frames.{frames, named_length, CutFrame, LongFrame, EndsStream, CutAfter}
 use Rattle.definitions.proofs.Frames.{CutAfter-one}
 use Rattle.at_edge.specs.Taking.{SourceSeen, Gave}
 use Rattle.at_edge.specs.Writing.{SinkSeen}

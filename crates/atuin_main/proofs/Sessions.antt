@@ -4,7 +4,8 @@ use Rattle.std.specs.List.{All}
 use Rattle.std.specs.Int.{w32, to_be_bytes}
 use Rattle.std.proofs.lemmas.List.{length-append, map-append}
 use Rattle.std.proofs.lemmas.List.Elements.{All-push, All-nil}
-use Rattle.definitions.specs.Frames.{frame, frames, most_payload_bytes}
+use Rattle.definitions.specs.Limits.{most_payload_bytes}
+use Rattle.definitions.specs.Frames.{frame, frames}
 use Rattle.definitions.specs.Journal.{JournalEntry}
 use Rattle.definitions.specs.Replies.{PlainReply, plain_reply_bytes}
 use Rattle.definitions.specs.Step.{Used, UsedFits, used_nothing, then_used}

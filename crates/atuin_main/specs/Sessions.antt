@@ -2,7 +2,8 @@
 use Rattle.std.specs.Prelude.{◌≡◌, ◌⊎◌, ℕ, ◌<◌, ◌≤◌, List, [], ◌∷◌, ◌++◌, length, map, take, Result, Ok, Err}
 use Rattle.std.specs.List.{All}
 use Rattle.std.specs.Io.KnownBytes.{IsAtEnd}
-use Rattle.definitions.specs.Frames.{frame, frames, most_payload_bytes, named_length, CutFrame, LongFrame}
+use Rattle.definitions.specs.Limits.{most_payload_bytes}
+use Rattle.definitions.specs.Frames.{frame, frames, named_length, CutFrame, LongFrame}
 use Rattle.definitions.specs.Journal.{JournalEntry}
 use Rattle.definitions.specs.Replies.{PlainReply, plain_reply_bytes}
 use Rattle.definitions.specs.Step.{Used, UsedFits}
@@ -33,8 +34,8 @@ pub record Stands (payloads : List (List ℕ)) (replies : List PlainReply) (sour
   pub written : Holds sink_old sink_new (reply_frames replies)
 
 -- nothing of a frame, or a part of one that ends within it
-abbrev pub FrameFront : List ℕ → Type 0
-FrameFront part = (part ≡ []) ⊎ CutFrame part
+abbrev pub FramePrefix : List ℕ → Type 0
+FramePrefix part = (part ≡ []) ⊎ CutFrame part
 
 -- the sink failed within the last reply
 pub record SinkStops (payloads : List (List ℕ)) (replies : List PlainReply) (source_old source_new : SourceSeen) (sink_old sink_new : SinkSeen) : Type 0 where
@@ -52,7 +53,7 @@ abbrev pub Ends : Result Served SessionFail → List (List ℕ) → List PlainRe
 Ends (Ok served) payloads replies source_old source_new sink_old sink_new =
     Stands payloads replies source_old source_new sink_old sink_new [] × IsAtEnd source_new.left × (length payloads < most_requests) × (served.requests ≡ length payloads)
 Ends (Err fails.SourceFault) payloads replies source_old source_new sink_old sink_new =
-    (part : List ℕ) × FrameFront part × Stands payloads replies source_old source_new sink_old sink_new part × (length payloads < most_requests) × Rose source_old.faults source_new.faults
+    (part : List ℕ) × FramePrefix part × Stands payloads replies source_old source_new sink_old sink_new part × (length payloads < most_requests) × Rose source_old.faults source_new.faults
 Ends (Err fails.SinkFault) payloads replies source_old source_new sink_old sink_new = SinkStops payloads replies source_old source_new sink_old sink_new × (length payloads ≤ most_requests)
 Ends (Err (fails.CutFrame at)) payloads replies source_old source_new sink_old sink_new =
     (part : List ℕ) × CutFrame part × Stands payloads replies source_old source_new sink_old sink_new part × IsAtEnd source_new.left × (length payloads < most_requests) × (at ≡ length (frames payloads))

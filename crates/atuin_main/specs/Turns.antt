@@ -2,7 +2,8 @@
 use Rattle.std.specs.Prelude.{◌≡◌, ℕ, ◌<◌, ◌≤◌, ◌^◌, List, [], length, take}
 use Rattle.std.specs.Int.{w32, to_be_bytes}
 use Rattle.std.specs.Io.KnownBytes.{IsAtEnd}
-use Rattle.definitions.specs.Frames.{frame, most_payload_bytes, CutFrame}
+use Rattle.definitions.specs.Limits.{most_payload_bytes}
+use Rattle.definitions.specs.Frames.{frame, CutFrame}
 use Rattle.definitions.specs.Journal.{JournalEntry}
 use Rattle.definitions.specs.Counts.{Rose}
 use Rattle.at_edge.specs.Taking.{SourceSeen, Gave}
@@ -10,7 +11,7 @@ use Rattle.at_edge.specs.Writing.{SinkSeen, Holds, Stopped}
 use Rattle.at_edge.specs.Drawing.{EntropySeen}
 use Rattle.at_edge.specs.Telling.{ClockSeen}
 use Rattle.daemon_core.specs.Answering.{AnswersPlain}
-use Rattle.atuin_main.specs.Sessions.{FrameFront}
+use Rattle.atuin_main.specs.Sessions.{FramePrefix}
 use Rattle.atuin_main.specs.declared.frames.LengthRead.{LengthRead}
 use Rattle.atuin_main.specs.declared.frames.LengthRead.TheVariants as lengths
 use Rattle.atuin_main.specs.declared.frames.FrameRead.{FrameRead}
@@ -23,7 +24,7 @@ abbrev pub ReadsLength : LengthRead → SourceSeen → SourceSeen → Type 0
 ReadsLength (lengths.Length n) old new = Gave old new (to_be_bytes w32 n) × (n < 2 ^ 32)
 ReadsLength lengths.End old new = Gave old new [] × IsAtEnd new.left
 ReadsLength lengths.Cut old new = (part : List ℕ) × CutFrame part × Gave old new part × IsAtEnd new.left
-ReadsLength lengths.Failed old new = (part : List ℕ) × FrameFront part × Gave old new part × Rose old.faults new.faults
+ReadsLength lengths.Failed old new = (part : List ℕ) × FramePrefix part × Gave old new part × Rose old.faults new.faults
 
 -- a part of a payload of this length was read into the buffer
 abbrev pub PartRead : ℕ → SourceSeen → SourceSeen → List ℕ → Type 0
@@ -43,7 +44,7 @@ ReadsFrame (reads.Payload n) old new buffer = Gave old new (frame (take n buffer
 ReadsFrame reads.End old new buffer = Gave old new [] × IsAtEnd new.left
 ReadsFrame reads.Cut old new buffer = (part : List ℕ) × CutFrame part × Gave old new part × IsAtEnd new.left
 ReadsFrame (reads.TooLong n) old new buffer = Gave old new (to_be_bytes w32 n) × (most_payload_bytes < n) × (n < 2 ^ 32)
-ReadsFrame reads.Failed old new buffer = (part : List ℕ) × FrameFront part × Gave old new part × Rose old.faults new.faults
+ReadsFrame reads.Failed old new buffer = (part : List ℕ) × FramePrefix part × Gave old new part × Rose old.faults new.faults
 
 -- A payload was read and answered, by a reply of these bytes.
 pub record Answered (payload reply_is : List ℕ) (source_old source_new : SourceSeen) (rand_old rand_new : EntropySeen) (clock_old clock_new : ClockSeen) (old new : List JournalEntry) : Type 0 where
@@ -77,4 +78,4 @@ TakesTurn turns.Cut source_old source_new sink_old sink_new rand_old rand_new cl
 TakesTurn (turns.TooLong n) source_old source_new sink_old sink_new rand_old rand_new clock_old clock_new old new =
     Unanswered (to_be_bytes w32 n) source_old source_new sink_old sink_new rand_old rand_new clock_old clock_new old new × (most_payload_bytes < n) × (n < 2 ^ 32)
 TakesTurn turns.SourceFailed source_old source_new sink_old sink_new rand_old rand_new clock_old clock_new old new =
-    (part : List ℕ) × FrameFront part × Unanswered part source_old source_new sink_old sink_new rand_old rand_new clock_old clock_new old new × Rose source_old.faults source_new.faults
+    (part : List ℕ) × FramePrefix part × Unanswered part source_old source_new sink_old sink_new rand_old rand_new clock_old clock_new old new × Rose source_old.faults source_new.faults

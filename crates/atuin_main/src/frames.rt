@@ -2,7 +2,7 @@
 
 ghost use Rattle.std.specs.Prelude.{◌≡◌, ◌≤◌, length};
 ghost use Rattle.std.specs.Int.{w32, to_be_bytes};
-ghost use Rattle.definitions.specs.Frames.{most_payload_bytes};
+ghost use Rattle.definitions.specs.Limits.{most_payload_bytes};
 ghost use Rattle.atuin_main.specs.Turns.{ReadsFrame, ReadsLength, ReadsPayload};
 
 use at_edge::{Filled, Source, fill};

@@ -1,7 +1,7 @@
 //! One session: requests in, replies out, over a journal in memory.
 
 ghost use Rattle.std.specs.Prelude.{◌≡◌, ◌≤◌, ◌+◌, length, IfOk};
-ghost use Rattle.definitions.specs.Frames.{most_payload_bytes};
+ghost use Rattle.definitions.specs.Limits.{most_payload_bytes};
 ghost use Rattle.atuin_main.specs.Sessions.{Session};
 ghost use Rattle.atuin_main.specs.Turns.{AnswersFrame, TakesTurn};
 

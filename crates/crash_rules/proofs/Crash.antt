@@ -3,7 +3,7 @@ use Rattle.std.proofs.Common.{◌≡◌, ℕ, inl, inr, List, [], ◌∷◌, ◌
 use Rattle.std.specs.List.{AllByRecursion}
 use Rattle.record_rules.specs.Records.{Entry}
 use Rattle.record_rules.specs.Journal.{events_of, Sound}
-use Rattle.record_rules.proofs.Fronts.{Sound-prefix}
+use Rattle.record_rules.proofs.Prefixes.{Sound-prefix}
 use Rattle.log_rules.specs.Body.{IsBatch}
 use Rattle.log_rules.specs.Log.{Form, payload_bytes, IsLogPrefix, StandsFor}
 use Rattle.log_rules.proofs.Logs.{open_gate_is_prefix, open_gate_adds}

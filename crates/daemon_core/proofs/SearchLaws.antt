@@ -1,16 +1,17 @@
 -- The parts of a search, over plain lists.
-use Rattle.std.proofs.Common.{◌≡◌, ℕ, ◌+◌, ◌-◌, ◌<◌, ◌≤◌, ◌^◌, min, true, false, ◌&&◌, ◌||◌, ◌==◌, nat_lt, List, [], ◌∷◌, ◌++◌, length, refl, ap, ap₂, zero-add, sym, ◌∙◌, subst, arith, suc, take, drop, slice_index_or, ◌⊎◌, inl, inr}
+use Rattle.std.proofs.Common.{◌≡◌, ℕ, ◌+◌, ◌-◌, ◌<◌, ◌≤◌, ◌^◌, true, false, ◌&&◌, ◌||◌, ◌==◌, nat_lt, List, [], ◌∷◌, ◌++◌, length, refl, ap, ap₂, sym, ◌∙◌, subst, arith, take, drop, slice_index_or, ◌⊎◌, inl, inr}
 use denote.Ref.{Bor}
 use Rattle.std.specs.List.{sum_by}
 use Rattle.std.specs.List.Sorted.{IsPermutation, IsSortedBy}
 use Rattle.std.specs.Cmp.{IsStrictWeakOrder}
 use Rattle.std.proofs.lemmas.Bool.Decides.{nat_tests}
-use Rattle.std.proofs.lemmas.List.{take_more, map-append, map_more, drop-map, get_or-map, length-map, take-append-drop, length-take, length-drop, append-nil, length-append}
-use Rattle.std.proofs.lemmas.List.Sums.{sum_by-append}
+use Rattle.std.proofs.lemmas.List.{take_more, map-append, map_more, drop-map, get_or-map, length-map, take-append-drop, length-drop, append-nil}
 use Rattle.std.proofs.Math.ListN.{drop_of_length-le}
-use Rattle.std.proofs.Math.Seq.{drop-cons, take-length}
+use Rattle.std.proofs.Math.Seq.{take-length}
 use Rattle.definitions.specs.Journal.{HistoryRecord, JournalEntry, begun, ended, ended_in}
-use Rattle.definitions.specs.Search.{is_shown_before, hit_bytes, most_shown_bytes, FitsPage, IsPage, IsAnswer}
+use Rattle.definitions.specs.Limits.{most_shown_bytes}
+use Rattle.definitions.specs.Search.{is_shown_before, hit_bytes, FitsPage, IsPage, IsAnswer}
+use Rattle.definitions.proofs.Pages.{page_goes_on as page_has_room, page_stops as page_is_full, page_ends as page_has_all, IsPage-seen}
 use Rattle.record_model.specs.declared.begun.Started.{Started}
 use Rattle.record_model.specs.declared.ended.History.{History}
 use Rattle.record_model.specs.Seen.{history_seen, histories_seen}
@@ -83,90 +84,42 @@ whole_rest xs k = ap (λ (n : ℕ). take n (drop k xs)) (sym (length-drop k xs))
 pub drop_past : {X : Type 0} (xs : List X) (k : ℕ) → length xs ≤ k → drop k xs ≡ []
 drop_past xs k past = drop_of_length-le xs {i = k} past
 
--- the first k hits are k
-count_of : (hits : List (Bor History)) (k : ℕ) → k ≤ length hits → length (hits_of (take k hits)) ≡ k
-count_of hits k within =
-    let all : length (take k hits) ≡ min k (length hits) = length-take k hits in
-    let long : length (hits_of (take k hits)) ≡ length (take k hits) = length-map (take k hits) hit_of in
-    omega arith
-
-sum_more : (hits : List (Bor History)) (k : ℕ) (d : Bor History) → k < length hits
-    → sum_by hit_bytes (hits_of (take (k + 1) hits)) ≡ sum_by hit_bytes (hits_of (take k hits)) + hit_bytes (hit_of (slice_index_or hits k d))
-sum_more hits k d below =
-    let all : sum_by hit_bytes (hits_of (take (k + 1) hits)) ≡ sum_by hit_bytes (hits_of (take k hits) ++ hit_of (slice_index_or hits k d) ∷ []) =
-    ap (sum_by hit_bytes) (map_more hit_of hits k d below) in
-    let parts : sum_by hit_bytes (hits_of (take k hits) ++ hit_of (slice_index_or hits k d) ∷ []) ≡ sum_by hit_bytes (hits_of (take k hits)) + (0 + hit_bytes (hit_of (slice_index_or hits k d))) =
-    sum_by-append hit_bytes (hits_of (take k hits)) (hit_of (slice_index_or hits k d) ∷ []) in
-    all ∙ parts ∙ ap (λ (n : ℕ). sum_by hit_bytes (hits_of (take k hits)) + n) (zero-add (hit_bytes (hit_of (slice_index_or hits k d))))
+-- the bytes of a borrowed hit's texts
+abbrev pub bytes_of : Bor History → ℕ
+bytes_of hit = hit_bytes (hit_of hit)
 
 -- the page has room for one more hit
 pub page_goes_on : (limit k bytes more : ℕ) (hits : List (Bor History)) (hit : Bor History) → k < length hits → hit ≡ slice_index_or hits k hit
-    → bytes ≡ sum_by hit_bytes (hits_of (take k hits)) → more ≡ hit_bytes (hit_of hit) → more < 2 ^ 35 → (k < limit) × ((k ≡ 0) ⊎ (bytes + more ≤ most_shown_bytes))
-    → (bytes + more ≡ sum_by hit_bytes (hits_of (take (k + 1) hits))) × FitsPage hit_bytes limit (hits_of (take (k + 1) hits)) × (bytes + more < 2 ^ 36)
+    → bytes ≡ sum_by bytes_of (take k hits) → more ≡ bytes_of hit → more < 2 ^ 35 → (k < limit) × ((k ≡ 0) ⊎ (bytes + more ≤ most_shown_bytes))
+    → (bytes + more ≡ sum_by bytes_of (take (k + 1) hits)) × FitsPage bytes_of limit (take (k + 1) hits) × (bytes + more < 2 ^ 36)
 page_goes_on limit k bytes more hits hit below is total counted small (some, room) =
-    let one : more ≡ hit_bytes (hit_of (slice_index_or hits k hit)) = counted ∙ ap (λ (b : Bor History). hit_bytes (hit_of b)) is in
-    let sum : bytes + more ≡ sum_by hit_bytes (hits_of (take (k + 1) hits)) = ap₂ (λ (a b : ℕ). a + b) total one ∙ sym (sum_more hits k hit below) in
-    let long : length (hits_of (take (k + 1) hits)) ≡ k + 1 = count_of hits (k + 1) (omega arith) in
-    let within : length (hits_of (take (k + 1) hits)) ≤ limit = omega arith in
-    elim room [
-      | inl first ↦
-          let nothing : bytes ≡ 0 = total ∙ ap (λ (n : ℕ). sum_by hit_bytes (hits_of (take n hits))) first in
-          let single : length (hits_of (take (k + 1) hits)) ≤ 1 = omega arith in
-          let bound : bytes + more < 2 ^ 36 = omega arith in (sum, (within, inl single), bound)
-      | inr fits ↦
-          let texts : sum_by hit_bytes (hits_of (take (k + 1) hits)) ≤ most_shown_bytes = omega arith in
-          let bound : bytes + more < 2 ^ 36 = omega arith in (sum, (within, inr texts), bound)
-    ]
-
--- the next hit doesn't fit: there are as many as may be, or its texts are too long
-no_room : (limit : ℕ) (page : List HistoryRecord) (next : HistoryRecord)
-    → (limit ≤ length page) ⊎ ((0 < length page) × (most_shown_bytes < sum_by hit_bytes page + hit_bytes next)) → FitsPage hit_bytes limit (page ++ next ∷ []) → ⊥
-no_room limit page next (inl all) fits =
-    let long : length (page ++ next ∷ []) ≡ length page + 1 = length-append page (next ∷ []) in
-    let most : length (page ++ next ∷ []) ≤ limit = fits.0 in
-    omega arith
-no_room limit page next (inr full) (within, inl single) =
-    let long : length (page ++ next ∷ []) ≡ length page + 1 = length-append page (next ∷ []) in
-    omega (arith, full.0)
-no_room limit page next (inr full) (within, inr texts) =
-    let total : sum_by hit_bytes (page ++ next ∷ []) ≡ sum_by hit_bytes page + (0 + hit_bytes next) = sum_by-append hit_bytes page (next ∷ []) in
-    omega (arith, full.1)
+    let fits : (k ≡ 0) ⊎ (bytes + bytes_of hit ≤ most_shown_bytes) = elim room [
+      | inl first ↦ inl first
+      | inr light ↦ inr (omega (arith, light, counted))
+    ] in
+    let next = page_has_room bytes_of limit hits k bytes hit below is total some fits in
+    let bound : bytes + more < 2 ^ 36 = elim room [
+      | inl first ↦ let nothing : bytes ≡ 0 = total ∙ ap (λ (n : ℕ). sum_by bytes_of (take n hits)) first in omega (arith, nothing, small)
+      | inr light ↦ omega (arith, light)
+    ] in
+    (ap (λ (n : ℕ). bytes + n) counted ∙ next.0, next.1, bound)
 
 -- a page is as long as may be where the next hit doesn't fit
 pub page_stops : (limit k bytes more : ℕ) (hits : List (Bor History)) (hit : Bor History) → k < length hits → hit ≡ slice_index_or hits k hit
-    → bytes ≡ sum_by hit_bytes (hits_of (take k hits)) → more ≡ hit_bytes (hit_of hit) → FitsPage hit_bytes limit (hits_of (take k hits))
+    → bytes ≡ sum_by bytes_of (take k hits) → more ≡ bytes_of hit → FitsPage bytes_of limit (take k hits)
     → (limit ≤ k) ⊎ ((0 < k) × (most_shown_bytes < bytes + more)) → IsPage hit_bytes limit (hits_of hits) (hits_of (take k hits))
 page_stops limit k bytes more hits hit below is total counted fits full =
-    let long : length (hits_of (take k hits)) ≡ k = count_of hits k (omega arith) in
-    let no_more : (limit ≤ length (hits_of (take k hits))) ⊎ ((0 < length (hits_of (take k hits))) × (most_shown_bytes < sum_by hit_bytes (hits_of (take k hits)) + hit_bytes (hit_of hit))) =
-    elim full [
-      | inl all ↦ inl (omega arith)
-      | inr past ↦ let some : 0 < k = past.0 in let over : most_shown_bytes < bytes + more = past.1 in inr (omega arith, omega arith)
-    ] in
-    let cell : drop k hits ≡ slice_index_or hits k hit ∷ drop (suc k) hits = drop-cons hits k hit below in
-    record {
-      rest = hits_of (drop k hits);
-      front = ap hits_of (sym (take-append-drop k hits)) ∙ map-append hit_of (take k hits) (drop k hits);
-      fits = fits;
-      most = λ next others at longer.
-          let cells : next ∷ others ≡ hit_of (slice_index_or hits k hit) ∷ hits_of (drop (suc k) hits) = sym at ∙ ap hits_of cell in
-          let same : next ≡ hit_of (slice_index_or hits k hit) = cc in
-          let next_is : next ≡ hit_of hit = same ∙ sym (ap hit_of is) in
-          no_room limit (hits_of (take k hits)) (hit_of hit) no_more (subst (λ (h : HistoryRecord). FitsPage hit_bytes limit (hits_of (take k hits) ++ h ∷ [])) next_is longer);
-    }
+    IsPage-seen hit_of hit_bytes limit hits (take k hits)
+    (page_is_full bytes_of limit hits k bytes hit below is total fits (elim full [
+      | inl all ↦ inl all
+      | inr past ↦ inr (past.0, let over : most_shown_bytes < bytes + more = past.1 in omega (arith, over, counted))
+    ]))
 
 -- all of the hits are a page
-pub page_ends : (limit k : ℕ) (hits : List (Bor History)) → length hits ≤ k → k ≤ length hits → FitsPage hit_bytes limit (hits_of (take k hits)) → IsPage hit_bytes limit (hits_of hits) (hits_of (take (length hits) hits))
+pub page_ends : (limit k : ℕ) (hits : List (Bor History)) → length hits ≤ k → k ≤ length hits → FitsPage bytes_of limit (take k hits) → IsPage hit_bytes limit (hits_of hits) (hits_of (take (length hits) hits))
 page_ends limit k hits past within fits =
     let same : k ≡ length hits = omega arith in
-    let all : take (length hits) hits ≡ hits = take-length hits in
-    let fits_all : FitsPage hit_bytes limit (hits_of (take (length hits) hits)) = subst (λ (n : ℕ). FitsPage hit_bytes limit (hits_of (take n hits))) same fits in
-    record {
-      rest = [];
-      front = ap hits_of (sym all) ∙ sym (append-nil (hits_of (take (length hits) hits)));
-      fits = fits_all;
-      most = λ next others at longer. let none : ⊥ = cc in none;
-    }
+    subst (λ (n : ℕ). IsPage hit_bytes limit (hits_of hits) (hits_of (take n hits))) same (IsPage-seen hit_of hit_bytes limit hits (take k hits) (page_has_all bytes_of limit hits k past fits))
 
 -- one hit more was copied
 pub copied_more : (copied : List History) (copy : History) (hits : List (Bor History)) (k : ℕ) (hit : Bor History) → k < length hits → hit ≡ slice_index_or hits k hit

@@ -3,7 +3,7 @@ use Rattle.std.proofs.Common.{◌≡◌, ℕ, suc, ◌+◌, ◌-◌, Bool, true,
 use Rattle.std.proofs.lemmas.Bool.{cases_lt}
 use Rattle.std.proofs.lemmas.List.{length-take, get_or-drop, get_or-take, get_or_past, get_or_append_left, get_or-append-add, get_or-append_right, append_cancel_right}
 use Rattle.std.proofs.lemmas.Option.{some_pair_parts}
-use Rattle.definitions.specs.Calls.{NoFront}
+use Rattle.definitions.specs.Calls.{NoPrefix}
 use Rattle.definitions.specs.Reading.{◌>>=◌}
 pub use Rattle.definitions.specs.Spelling.{IsBytes}
 
@@ -84,14 +84,14 @@ module _ (A : Type 0) (read : List ℕ → Option (A × List ℕ)) (Spells : A �
       (append_cancel_right a b x (e ∙ ap (λ (r : List ℕ). b ++ r) (sym parts.1)), parts.0)
 
   -- where none is read, none stands
-  pub none_stands : (bytes : List ℕ) → read bytes ≡ None → NoFront (λ (item : List ℕ). (v : A) × Spells v item) bytes
+  pub none_stands : (bytes : List ℕ) → read bytes ≡ None → NoPrefix (λ (item : List ℕ). (v : A) × Spells v item) bytes
   none_stands bytes e front rest parts s =
       let found = reads.again s.0 front rest s.1 in
       let there = ap read parts in
       cc
 
   -- where none stands, none is read
-  pub none_read : (bytes : List ℕ) → IsBytes bytes → NoFront (λ (item : List ℕ). (v : A) × Spells v item) bytes → read bytes ≡ None
+  pub none_read : (bytes : List ℕ) → IsBytes bytes → NoPrefix (λ (item : List ℕ). (v : A) × Spells v item) bytes → read bytes ≡ None
   none_read bytes are absent =
       let cases : (r : Option (A × List ℕ)) → read bytes ≡ r → r ≡ None = λ r. elim r as (λ o. read bytes ≡ o → o ≡ None) [
         | None ↦ λ e. refl

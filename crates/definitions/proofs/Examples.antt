@@ -11,7 +11,8 @@ use Rattle.std.proofs.lemmas.List.Sorted.{IsPermutation-refl}
 use Rattle.std.proofs.lemmas.Option.{some_pair_parts}
 use Rattle.std.proofs.lemmas.Str.{IsUtf8-nil, IsUtf8-from_is_utf8}
 use Rattle.definitions.specs.Spelling.{IsBytes, positive_fixint, negative_fixint, uint_8, uint_16, uint_32, uint_64, int_8, int_16, int_32, int_64, integer_bytes, SpellsInteger, fixstr, str_8, str_16, str_32, SpellsText, fixarray, array_16, array_32}
-use Rattle.definitions.specs.Frames.{most_payload_bytes, frame, frames, CutFrame, LongFrame}
+use Rattle.definitions.specs.Limits.{most_payload_bytes}
+use Rattle.definitions.specs.Frames.{frame, frames, CutFrame, LongFrame}
 use Rattle.definitions.specs.Ids.{id_text, made_id}
 use Rattle.definitions.specs.Calls.{SearchMode, by_prefix, by_substring, Argument, PlainCall, plain_start_call, plain_end_call, plain_search_call, mode_number, call_number, arguments, a_text, any_text, start_kinds, end_kinds, plain_search_kinds, SpellsArguments, SpellsCall, plain_kinds, WrongAt}
 use Rattle.definitions.specs.Reading.{array_at, integer_at, text_head_at, text_at, argument_at, arguments_at, last_arguments_at, call_at}
@@ -507,12 +508,12 @@ newest_sorted (suc (suc k)) d low high = absurd (omega arith)
 
 pub searches : WorkedSearches
 searches = record {
-  two = record { rest = pwd_ended ∷ []; front = refl; fits = (omega arith, inr (omega arith)); most = λ next others e more. let many = more.0 in omega (arith, many) };
+  two = record { rest = pwd_ended ∷ []; begins = refl; fits = (omega arith, inr (omega arith)); most = λ next others e more. let many = more.0 in omega (arith, many) };
   not_one = λ p.
-      let rest : ls_ended ∷ pwd_ended ∷ [] ≡ p.rest = let f = p.front in cc in
+      let rest : ls_ended ∷ pwd_ended ∷ [] ≡ p.rest = let f = p.begins in cc in
       p.most ls_ended (pwd_ended ∷ []) (sym rest) (omega arith, inr (omega arith));
   not_three = λ p. let many = p.fits.0 in omega (arith, many);
-  not_the_last = λ p. let f : pwd_ended ∷ ls_ended ∷ [] ≡ ls_ended ∷ p.rest = p.front in let same : pwd_ended ≡ ls_ended = cc in let id : 7 ≡ first_id = ap (λ (h : HistoryRecord). h.id) same in omega (arith, id);
+  not_the_last = λ p. let f : pwd_ended ∷ ls_ended ∷ [] ≡ ls_ended ∷ p.rest = p.begins in let same : pwd_ended ≡ ls_ended = cc in let id : 7 ≡ first_id = ap (λ (h : HistoryRecord). h.id) same in omega (arith, id);
   just_fits = λ h is. (omega arith, inr (omega (arith, is)));
   too_heavy = λ h is fits. elim fits.1 [
     | inl one ↦ omega (arith, one)
@@ -520,7 +521,7 @@ searches = record {
   ];
   single = λ h is. record {
     rest = ls_ended ∷ [];
-    front = refl;
+    begins = refl;
     fits = (omega arith, inl (omega arith));
     most = λ next others e more. elim more.1 [
       | inl one ↦ omega (arith, one)
@@ -530,7 +531,7 @@ searches = record {
   none_allowed = λ fits. let h = fits.0 in omega (arith, h);
   answer = record { in_order = newest_first; all = turned; sorted = newest_sorted; cut = whole_page hit_bytes 10 newest_first (omega arith, inr (omega arith)) };
   without_first = record { in_order = newest_first; all = turned; sorted = newest_sorted; cut = whole_page hit_bytes 10 (hit_at 2 30 (codes "LS -l") ∷ hit_at 4 10 (codes "ls") ∷ []) (omega arith, inr (omega arith)) };
-  first_alone = record { in_order = newest_first; all = turned; sorted = newest_sorted; cut = record { rest = hit_at 2 30 (codes "LS -l") ∷ hit_at 4 10 (codes "ls") ∷ []; front = refl; fits = (omega arith, inl (omega arith)); most = λ next others e more. let many = more.0 in omega (arith, many) } };
+  first_alone = record { in_order = newest_first; all = turned; sorted = newest_sorted; cut = record { rest = hit_at 2 30 (codes "LS -l") ∷ hit_at 4 10 (codes "ls") ∷ []; begins = refl; fits = (omega arith, inl (omega arith)); most = λ next others e more. let many = more.0 in omega (arith, many) } };
   behind_the_last = record { in_order = newest_first; all = turned; sorted = newest_sorted; cut = whole_page hit_bytes 10 [] (omega arith, inl (omega arith)) };
 }
 

@@ -9,7 +9,8 @@ use Rattle.definitions.specs.Spelling.{IsBytes}
 use Rattle.std.proofs.lemmas.Nat.{from_be_bytes-to_be_bytes_4, be_bytes_4}
 use Rattle.std.specs.Int.{w32, to_be_bytes}
 use Rattle.std.specs.List.{All}
-use Rattle.definitions.specs.Frames.{most_payload_bytes, frame, frames, named_length, NoWholeFrame, StreamEnding, whole_stream, cut_stream, long_stream, IsStreamEnding, StreamEnds, EndsStream, CutAfter}
+use Rattle.definitions.specs.Limits.{most_payload_bytes}
+use Rattle.definitions.specs.Frames.{frame, frames, named_length, NoWholeFrame, StreamEnding, whole_stream, cut_stream, long_stream, IsStreamEnding, StreamEnds, EndsStream, CutAfter}
 
 pub frames-append : (payloads more : List (List ℕ)) → frames (payloads ++ more) ≡ frames payloads ++ frames more
 frames-append payloads more = flat_map-append frame payloads more

@@ -3,7 +3,7 @@ use Rattle.std.proofs.Common.{◌≡◌, ℕ, ◌^◌, ℤ, pos, negsuc, FitsSig
 use Rattle.std.specs.Int.{w64}
 use Rattle.std.proofs.lemmas.Bool.{lt-ltb, ltb-true, leb-true, le-leb, eqb-true}
 use Rattle.definitions.specs.Spelling.{IsBytes, SpellsInteger, SpellsText}
-use Rattle.definitions.specs.Calls.{Argument, a_text, an_integer, SpellsArgument, Kind, any_text, empty_text, id_digits, signed_64, from_to, IsOfKind, SpellsArguments, NoFront, IsArgument}
+use Rattle.definitions.specs.Calls.{Argument, a_text, an_integer, SpellsArgument, Kind, any_text, empty_text, id_digits, signed_64, from_to, IsOfKind, SpellsArguments, NoPrefix, IsArgument}
 use Rattle.definitions.specs.Reading.{◌>=>◌, item_at, text_at, integer_at, is_id_text, fits_64, is_from_to, text_argument, integer_argument, argument_at, arguments_at, id_value}
 use Rattle.definitions.proofs.Bytes.{Takes, Takes-then, ReadsSpellings}
 use Rattle.definitions.proofs.Spelling.{integers_read, texts_read}
@@ -44,14 +44,14 @@ pub record ReadsItems {A : Type 0} (read : List ℕ → Result (A × List ℕ) �
 
 module _ (A : Type 0) (read : List ℕ → Result (A × List ℕ) ℕ) (Spells : A → List ℕ → Type 0) (reads : ReadsItems read Spells) where
   -- where none is read, none stands
-  pub no_item_stands : (bytes : List ℕ) (left : ℕ) → read bytes ≡ Err left → NoFront (λ (item : List ℕ). (v : A) × Spells v item) bytes
+  pub no_item_stands : (bytes : List ℕ) (left : ℕ) → read bytes ≡ Err left → NoPrefix (λ (item : List ℕ). (v : A) × Spells v item) bytes
   no_item_stands bytes left e front rest parts s =
       let found = reads.again s.0 front rest s.1 in
       let there = ap read parts in
       cc
 
   -- where none stands, none is read
-  pub no_item_read : (bytes : List ℕ) → IsBytes bytes → NoFront (λ (item : List ℕ). (v : A) × Spells v item) bytes → read bytes ≡ Err (length bytes)
+  pub no_item_read : (bytes : List ℕ) → IsBytes bytes → NoPrefix (λ (item : List ℕ). (v : A) × Spells v item) bytes → read bytes ≡ Err (length bytes)
   no_item_read bytes are absent =
       let cases : (r : Result (A × List ℕ) ℕ) → read bytes ≡ r → r ≡ Err (length bytes) = λ r. elim r as (λ o. read bytes ≡ o → o ≡ Err (length bytes)) [
         | Ok x ↦ λ e. let t = reads.takes bytes x.0 x.1 are e in absurd (absent t.0 x.1 t.2.parts (x.0, t.1))
@@ -197,7 +197,7 @@ pub record WrongArgument (all : List Kind) (bytes : List ℕ) (left : ℕ) : Typ
   pub all_are : all ≡ before ++ kind ∷ after
   pub parts : bytes ≡ read ++ rest
   pub spelled : SpellsArguments before good read
-  pub none : NoFront (IsArgument kind) rest
+  pub none : NoPrefix (IsArgument kind) rest
   pub left_is : left ≡ length rest
 
 pub argument_wrong : (all : List Kind) (bytes : List ℕ) (left : ℕ) → IsBytes bytes → arguments_at all bytes ≡ Err left → WrongArgument all bytes left
@@ -228,7 +228,7 @@ argument_wrong (kind ∷ others) bytes left are e =
           ]
     ]
 
-pub wrong_argument_read : (before : List Kind) (kind : Kind) (after : List Kind) (good : List Argument) (read rest : List ℕ) → IsBytes rest → SpellsArguments before good read → NoFront (IsArgument kind) rest
+pub wrong_argument_read : (before : List Kind) (kind : Kind) (after : List Kind) (good : List Argument) (read rest : List ℕ) → IsBytes rest → SpellsArguments before good read → NoPrefix (IsArgument kind) rest
     → arguments_at (before ++ kind ∷ after) (read ++ rest) ≡ Err (length rest)
 unfolding arguments_at
 wrong_argument_read [] kind after [] read rest are s none =

@@ -1,8 +1,7 @@
 -- How long is what is written.
 use Rattle.std.specs.Prelude.{◌≡◌, ℕ, ◌+◌, ◌≤◌, ◌*◌, ℤ, pos, negsuc, List, [], ◌∷◌, ◌++◌, length, Option, Some, None}
 use Rattle.std.specs.List.{flat_map, sum_by}
-use Rattle.std.proofs.Common.{refl, arith, length-append, ◌∙◌}
-use Rattle.std.proofs.lemmas.List.Concat.{length-flat_map}
+use Rattle.std.proofs.Common.{arith, length-append}
 use Rattle.std.proofs.lemmas.List.Sums.{sum_by-cons}
 use Rattle.definitions.specs.Spelling.{shortest_unsigned, shortest_negative, shortest_text, shortest_array, text_head, written_integer, written_text, written_array}
 use Rattle.definitions.specs.Ids.{id_text}

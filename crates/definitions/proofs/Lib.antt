@@ -16,3 +16,4 @@ pub mod Ranges
 pub mod Counts
 pub mod Prefixes
 pub mod Lengths
+pub mod Pages

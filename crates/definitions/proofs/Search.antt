@@ -95,11 +95,11 @@ module _ {X : Type 0} (bytes_of : X → ℕ) (limit : ℕ) where
 
   -- all that is left is a page, where it fits
   pub whole_page : (page : List X) → FitsPage bytes_of limit page → IsPage bytes_of limit page page
-  whole_page page fits = record { rest = []; front = sym (append-nil page); fits = fits; most = λ next others e more. absurd cc }
+  whole_page page fits = record { rest = []; begins = sym (append-nil page); fits = fits; most = λ next others e more. absurd cc }
 
   pub IsPage-one : (all page other : List X) → IsPage bytes_of limit all page → IsPage bytes_of limit all other → page ≡ other
   IsPage-one all page other p q =
-      elim (fronts page other p.rest q.rest (sym p.front ∙ q.front)) [
+      elim (fronts page other p.rest q.rest (sym p.begins ∙ q.begins)) [
         | inl f ↦ sym (no_more all page other f.0 p q.fits f.1 q.rest f.2)
         | inr f ↦ no_more all other page f.0 q p.fits f.1 p.rest f.2
       ]

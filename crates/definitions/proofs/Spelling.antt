@@ -13,7 +13,7 @@ use Rattle.std.proofs.lemmas.Option.{some_pair_parts, same_Some}
 use Rattle.definitions.specs.Spelling.{IsBytes, IntegerForm, positive_fixint, negative_fixint, uint_8, uint_16, uint_32, uint_64, int_8, int_16, int_32, int_64, IsBelow, FitsInteger, marked, integer_bytes, SpellsInteger, IsInteger, IsSpellable, shortest_unsigned, shortest_negative, written_integer, TextForm, fixstr, str_8, str_16, str_32, text_limit, text_head, SpellsText, IsText, shortest_text, written_text, ArrayForm, fixarray, array_16, array_32, array_limit, array_head, SpellsArray, IsArray, shortest_array, written_array}
 use Rattle.definitions.specs.Reading.{wide_at, unsigned_at, signed_at, integer_at, text_head_at, text_at, array_at}
 use Rattle.definitions.proofs.Bytes.{IsBytes-take, IsBytes-drop, IsBytes-tail, Takes, Takes-then, Takes-behind, bind_some, when_false, when_true, ReadsSpellings, spellings_apart, none_stands, none_read}
-use Rattle.definitions.specs.Calls.{NoFront}
+use Rattle.definitions.specs.Calls.{NoPrefix}
 
 -- ---- numbers in w bytes
 
@@ -533,22 +533,22 @@ texts_apart = spellings_apart (List ℕ) text_at SpellsText texts_read
 pub arrays_apart : (a b x y : List ℕ) (v w : ℕ) → SpellsArray v a → SpellsArray w b → a ++ x ≡ b ++ y → (a ≡ b) × (v ≡ w)
 arrays_apart = spellings_apart ℕ array_at SpellsArray arrays_read
 
-pub integer_none : (bytes : List ℕ) → integer_at bytes ≡ None → NoFront IsInteger bytes
+pub integer_none : (bytes : List ℕ) → integer_at bytes ≡ None → NoPrefix IsInteger bytes
 integer_none = none_stands ℤ integer_at SpellsInteger integers_read
 
-pub integer_none_read : (bytes : List ℕ) → IsBytes bytes → NoFront IsInteger bytes → integer_at bytes ≡ None
+pub integer_none_read : (bytes : List ℕ) → IsBytes bytes → NoPrefix IsInteger bytes → integer_at bytes ≡ None
 integer_none_read = none_read ℤ integer_at SpellsInteger integers_read
 
-pub text_none : (bytes : List ℕ) → text_at bytes ≡ None → NoFront IsText bytes
+pub text_none : (bytes : List ℕ) → text_at bytes ≡ None → NoPrefix IsText bytes
 text_none = none_stands (List ℕ) text_at SpellsText texts_read
 
-pub text_none_read : (bytes : List ℕ) → IsBytes bytes → NoFront IsText bytes → text_at bytes ≡ None
+pub text_none_read : (bytes : List ℕ) → IsBytes bytes → NoPrefix IsText bytes → text_at bytes ≡ None
 text_none_read = none_read (List ℕ) text_at SpellsText texts_read
 
-pub array_none : (bytes : List ℕ) → array_at bytes ≡ None → NoFront IsArray bytes
+pub array_none : (bytes : List ℕ) → array_at bytes ≡ None → NoPrefix IsArray bytes
 array_none = none_stands ℕ array_at SpellsArray arrays_read
 
-pub array_none_read : (bytes : List ℕ) → IsBytes bytes → NoFront IsArray bytes → array_at bytes ≡ None
+pub array_none_read : (bytes : List ℕ) → IsBytes bytes → NoPrefix IsArray bytes → array_at bytes ≡ None
 array_none_read = none_read ℕ array_at SpellsArray arrays_read
 
 -- ---- kinds are apart: a first byte belongs to one kind

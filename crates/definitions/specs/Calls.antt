@@ -55,9 +55,9 @@ pub record SpellsNumbered (table : ℕ → Option (List Kind)) (n : ℕ) (argume
   pub are_arguments : SpellsArguments all_kinds arguments rest
   pub are : payload ≡ header ++ (number ++ rest)
 
--- no front of the bytes is spelled so
-abbrev pub NoFront : (List ℕ → Type 0) → List ℕ → Type 0
-NoFront Spelled bytes = (front rest : List ℕ) → bytes ≡ front ++ rest → Spelled front → ⊥
+-- no prefix of the bytes is spelled so
+abbrev pub NoPrefix : (List ℕ → Type 0) → List ℕ → Type 0
+NoPrefix Spelled bytes = (prefix rest : List ℕ) → bytes ≡ prefix ++ rest → Spelled prefix → ⊥
 
 -- the items that a payload may have: its header, of 1 to 8 items, its number, and an argument of a kind
 abbrev pub IsHeader : List ℕ → Type 0
@@ -73,13 +73,13 @@ IsArgument kind bytes = (argument : Argument) × IsOfKind kind argument × Spell
 -- before the array's length, and a wrong length is a fault of the header, at place 0. Then comes each argument, and then
 -- what stands behind the last one. An item that is cut is wrong at its first byte.
 pub data WrongAt (table : ℕ → Option (List Kind)) (payload : List ℕ) (place : ℕ) : Type 0 where
-  wrong_header : NoFront IsHeader payload → place ≡ 0 → WrongAt table payload place
-  wrong_number : (header rest : List ℕ) → payload ≡ header ++ rest → IsHeader header → NoFront (IsNumber table) rest → place ≡ length header → WrongAt table payload place
+  wrong_header : NoPrefix IsHeader payload → place ≡ 0 → WrongAt table payload place
+  wrong_number : (header rest : List ℕ) → payload ≡ header ++ rest → IsHeader header → NoPrefix (IsNumber table) rest → place ≡ length header → WrongAt table payload place
   wrong_length : (n c : ℕ) (header number rest : List ℕ) (all_kinds : List Kind) → payload ≡ header ++ (number ++ rest) → SpellsArray n header → 1 ≤ n → n ≤ 8
       → SpellsInteger (pos c) number → table c ≡ Some all_kinds → n ≢ 1 + length all_kinds → place ≡ 0 → WrongAt table payload place
   wrong_argument : (c : ℕ) (header number read rest : List ℕ) (before : List Kind) (kind : Kind) (after : List Kind) (good : List Argument) → payload ≡ header ++ (number ++ (read ++ rest))
       → SpellsArray (1 + length (before ++ kind ∷ after)) header → SpellsInteger (pos c) number → table c ≡ Some (before ++ kind ∷ after) → SpellsArguments before good read
-      → NoFront (IsArgument kind) rest → place ≡ length (header ++ (number ++ read)) → WrongAt table payload place
+      → NoPrefix (IsArgument kind) rest → place ≡ length (header ++ (number ++ read)) → WrongAt table payload place
   left_over : (c : ℕ) (good : List Argument) (spelled rest : List ℕ) → payload ≡ spelled ++ rest → SpellsNumbered table c good spelled → rest ≢ [] → place ≡ length spelled → WrongAt table payload place
 
 -- ---- the calls of a plain journal

@@ -2,10 +2,7 @@
 use Rattle.std.specs.Prelude.{◌≡◌, ◌≢◌, ℕ, ◌+◌, ◌<◌, ◌≤◌, List, [], ◌++◌, length, take, ◌⊎◌}
 use Rattle.std.specs.List.{flat_map, All}
 use Rattle.std.specs.Int.{w32, to_be_bytes, from_be_bytes}
-
--- a frame that is read has a payload of at most this many bytes
-abbrev pub most_payload_bytes : ℕ
-most_payload_bytes = 1048576
+use Rattle.definitions.specs.Limits.{most_payload_bytes}
 
 abbrev pub frame : List ℕ → List ℕ
 frame payload = to_be_bytes w32 (length payload) ++ payload

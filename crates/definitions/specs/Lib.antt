@@ -11,3 +11,5 @@ pub mod Reading
 pub mod Examples
 pub mod Counts
 pub mod Prefixes
+pub mod Limits
+pub mod Pages

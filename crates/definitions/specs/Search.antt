@@ -3,12 +3,9 @@ use Rattle.std.specs.Prelude.{◌≡◌, ℕ, ◌+◌, ◌≤◌, List, [], ◌�
 use Rattle.std.specs.List.{list_any, starts_with, sum_by}
 use Rattle.std.specs.List.Sorted.{IsPermutation, IsSortedBy}
 use Rattle.std.specs.Char.{is_ascii_uppercase, to_ascii_lowercase}
+use Rattle.definitions.specs.Limits.{most_shown_bytes}
 use Rattle.definitions.specs.Calls.{SearchMode, by_prefix, by_substring}
 use Rattle.definitions.specs.Journal.{HistoryRecord}
-
--- what several items in one reply may weigh together, in bytes of their texts
-abbrev pub most_shown_bytes : ℕ
-most_shown_bytes = 4194304
 
 -- Smart case: a query without ASCII capitals is compared with the command's ASCII letters folded, any other exactly.
 abbrev pub compared : List ℕ → List ℕ → List ℕ
@@ -42,7 +39,7 @@ FitsPage bytes_of limit items = (length items ≤ limit) × ((length items ≤ 1
 -- as many of the first items as one reply may show
 pub record IsPage {X : Type 0} (bytes_of : X → ℕ) (limit : ℕ) (all page : List X) : Type 0 where
   pub rest : List X
-  pub front : all ≡ page ++ rest
+  pub begins : all ≡ page ++ rest
   pub fits : FitsPage bytes_of limit page
   pub most : (next : X) (others : List X) → rest ≡ next ∷ others → FitsPage bytes_of limit (page ++ next ∷ []) → ⊥
 

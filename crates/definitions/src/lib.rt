@@ -2,7 +2,8 @@
 //!
 //! `specs/` says what bytes spell which integer, text, array and call (`Spelling`, `Calls`), how a stream is cut into
 //! frames (`Frames`), how an id is made and printed (`Ids`), what a journal of plain commands is (`Journal`), how a
-//! search matches, orders and cuts (`Search`), what a reply's bytes are (`Replies`), and what one request (`Step`) and a list of
+//! search matches, orders and cuts (`Search`), which prefix of some items weighs so much (`Pages`), which limits hold
+//! (`Limits`), what a reply's bytes are (`Replies`), and what one request (`Step`) and a list of
 //! requests (`Runs`) do to a journal. `Reading` reads from left to right, as code does; nothing rests on it alone.
 //! `Examples` works the words out.
 //! No word names a type of the crates above: each mirrors what it needs by a small record of numbers and lists.
@@ -10,6 +11,7 @@
 
 mod call_laws;
 mod frame_laws;
+mod page_laws;
 mod run_laws;
 mod spelling_laws;
 mod worked;
@@ -20,6 +22,9 @@ pub use call_laws::{
 };
 pub use frame_laws::{
     a_limited_stream_is_cut_in_one_way, a_stream_is_cut_in_one_way, a_whole_input_ends_in_one_way,
+};
+pub use page_laws::{
+    a_page_is_cut_by_counting, a_page_is_one_as_it_is_seen, a_prefix_within_a_weight_is_the_longest,
 };
 pub use run_laws::{
     a_run_answers_each_payload, a_run_leaves_a_sound_journal, a_run_leaves_one_journal,

@@ -4,7 +4,7 @@ use Rattle.std.specs.Option.{option_map}
 use Rattle.std.specs.Str.{IsUtf8, is_utf8}
 use Rattle.std.proofs.lemmas.Bool.{cases_Bool}
 use Rattle.std.proofs.lemmas.Str.{is_utf8-from_IsUtf8, IsUtf8-from_is_utf8}
-use Rattle.definitions.specs.Calls.{NoFront}
+use Rattle.definitions.specs.Calls.{NoPrefix}
 use Rattle.definitions.specs.Spelling.{IsBytes}
 use Rattle.definitions.proofs.Bytes.{ReadsSpellings, none_stands}
 use Rattle.msgpack_fields.specs.Reading.{BeginsWith}
@@ -23,7 +23,7 @@ module _ (A X : Type 0) (read : List ℕ → Option (A × List ℕ)) (Spells : A
   found_is_spelled None are same = tt
   found_is_spelled (Some x) are same = let t = reads.takes bytes (view x).0 (view x).1 are (sym same) in (t.0, t.1, t.2.parts)
 
-  pub none_is_spelled : (r : Option X) → option_map view r ≡ read bytes → IfNone r (NoFront (λ (item : List ℕ). (v : A) × Spells v item) bytes)
+  pub none_is_spelled : (r : Option X) → option_map view r ≡ read bytes → IfNone r (NoPrefix (λ (item : List ℕ). (v : A) × Spells v item) bytes)
   none_is_spelled None same = none_stands A read Spells reads bytes (sym same)
   none_is_spelled (Some x) same = tt
 

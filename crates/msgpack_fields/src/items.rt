@@ -5,7 +5,7 @@ ghost use Rattle.std.specs.Int.{w8, w16, w32, w64};
 ghost use Rattle.std.specs.Str.{is_utf8, IsUtf8};
 ghost use Rattle.definitions.specs.Spelling.{SpellsInteger, IsInteger, IsSpellable, SpellsText, IsText, TextFits, SpellsArray, IsArray};
 ghost use Rattle.definitions.specs.Reading.{wide_at, integer_at, text_head_at, text_at, array_at};
-ghost use Rattle.definitions.specs.Calls.{NoFront};
+ghost use Rattle.definitions.specs.Calls.{NoPrefix};
 ghost use Rattle.payload_rules.specs.Items.{SpellsBin};
 ghost use Rattle.payload_rules.specs.Reading.{bin_head_at, bin_at};
 ghost use Rattle.msgpack_fields.specs.Reading.{BeginsWith, IsBin, SpellsNilOr, SpellsNumber, IsNilOr, number_at, nil_or_at};
@@ -154,7 +154,7 @@ fn array_at_front(bytes: &[u8]) -> Option<(u32, &[u8])>
 /// The integer at the front, in any of its spellings, and what stands behind it.
 pub fn integer_of(bytes: &[u8]) -> Option<(i128, &[u8])>
     ensures spelled { IfSome result (λ x. BeginsWith (SpellsInteger x.0) bytes.now x.1.now) }
-    ensures none { IfNone result (NoFront IsInteger bytes.now) }
+    ensures none { IfNone result (NoPrefix IsInteger bytes.now) }
     ensures range { IfSome result (λ x. IsSpellable x.0) }
     ensures value { option_map (λ x. (x.0, x.1.now)) result ≡ integer_at bytes.now }
     ensures shorter { IfSome result (λ x. length x.1.now ≤ length bytes.now) }
@@ -165,7 +165,7 @@ pub fn integer_of(bytes: &[u8]) -> Option<(i128, &[u8])>
 /// The text at the front, in any of its spellings, and what stands behind it.
 pub fn text_of(bytes: &[u8]) -> Option<(&[u8], &[u8])>
     ensures spelled { IfSome result (λ x. BeginsWith (SpellsText x.0.now) bytes.now x.1.now) }
-    ensures none { IfNone result (NoFront IsText bytes.now) }
+    ensures none { IfNone result (NoPrefix IsText bytes.now) }
     ensures utf8 { IfSome result (λ x. IsUtf8 x.0.now) }
     ensures short { IfSome result (λ x. length x.0.now < 2 ^ 32) }
     ensures value { option_map (λ x. (x.0.now, x.1.now)) result ≡ text_at bytes.now }
@@ -177,7 +177,7 @@ pub fn text_of(bytes: &[u8]) -> Option<(&[u8], &[u8])>
 /// The number of items in the header of an array at the front, in any of its spellings, and what stands behind it.
 pub fn array_of(bytes: &[u8]) -> Option<(u32, &[u8])>
     ensures spelled { IfSome result (λ x. BeginsWith (SpellsArray x.0) bytes.now x.1.now) }
-    ensures none { IfNone result (NoFront IsArray bytes.now) }
+    ensures none { IfNone result (NoPrefix IsArray bytes.now) }
     ensures value { option_map (λ x. (x.0, x.1.now)) result ≡ array_at bytes.now }
     ensures shorter { IfSome result (λ x. length x.1.now ≤ length bytes.now) }
 {
@@ -187,7 +187,7 @@ pub fn array_of(bytes: &[u8]) -> Option<(u32, &[u8])>
 /// What the bin at the front holds, in any of its spellings, and what stands behind it.
 pub fn bin_of(bytes: &[u8]) -> Option<(&[u8], &[u8])>
     ensures spelled { IfSome result (λ x. BeginsWith (SpellsBin x.0.now) bytes.now x.1.now) }
-    ensures none { IfNone result (NoFront IsBin bytes.now) }
+    ensures none { IfNone result (NoPrefix IsBin bytes.now) }
     ensures value { option_map (λ x. (x.0.now, x.1.now)) result ≡ bin_at bytes.now }
     ensures shorter { IfSome result (λ x. length x.1.now ≤ length bytes.now) }
 {
@@ -237,7 +237,7 @@ fn nil_or_text_at_front(bytes: &[u8]) -> Option<(Option<&[u8]>, &[u8])>
 /// Nil, or the number at the front that isn't negative, in any of its spellings, and what stands behind it.
 pub fn nil_or_u64_of(bytes: &[u8]) -> Option<(Option<u64>, &[u8])>
     ensures spelled { IfSome result (λ x. BeginsWith (SpellsNilOr SpellsNumber x.0) bytes.now x.1.now) }
-    ensures none { IfNone result (NoFront (IsNilOr SpellsNumber) bytes.now) }
+    ensures none { IfNone result (NoPrefix (IsNilOr SpellsNumber) bytes.now) }
     ensures value { option_map (λ x. (x.0, x.1.now)) result ≡ nil_or_at number_at bytes.now }
     ensures shorter { IfSome result (λ x. length x.1.now ≤ length bytes.now) }
 {
@@ -247,7 +247,7 @@ pub fn nil_or_u64_of(bytes: &[u8]) -> Option<(Option<u64>, &[u8])>
 /// Nil, or the text at the front, in any of its spellings, and what stands behind it.
 pub fn nil_or_text_of(bytes: &[u8]) -> Option<(Option<&[u8]>, &[u8])>
     ensures spelled { IfSome result (λ x. BeginsWith (SpellsNilOr SpellsText (option_map (λ t. t.now) x.0)) bytes.now x.1.now) }
-    ensures none { IfNone result (NoFront (IsNilOr SpellsText) bytes.now) }
+    ensures none { IfNone result (NoPrefix (IsNilOr SpellsText) bytes.now) }
     ensures text { IfSome result (λ x. IfSome x.0 (λ t. TextFits t.now)) }
     ensures value { option_map (λ x. (option_map (λ t. t.now) x.0, x.1.now)) result ≡ nil_or_at text_at bytes.now }
     ensures shorter { IfSome result (λ x. length x.1.now ≤ length bytes.now) }

@@ -4,7 +4,7 @@ ghost use Rattle.std.specs.Prelude.{◌≡◌, ◌+◌, ◌<◌, ◌^◌, [], le
 ghost use Rattle.std.specs.Str.{IsUtf8};
 ghost use Rattle.definitions.specs.Spelling.{SpellsInteger, IsInteger, IsSpellable, SpellsText, IsText, TextFits, SpellsArray, IsArray};
 ghost use Rattle.definitions.specs.Reading.{integer_at, text_at, array_at};
-ghost use Rattle.definitions.specs.Calls.{NoFront};
+ghost use Rattle.definitions.specs.Calls.{NoPrefix};
 ghost use Rattle.std.specs.Option.{option_map};
 ghost use Rattle.payload_rules.specs.Items.{SpellsBin};
 ghost use Rattle.payload_rules.specs.Reading.{bin_at};
@@ -66,7 +66,7 @@ impl<'a> Reader<'a> {
     /// [`Wrong`] exactly where no spelling of an integer stands there. The reader then stays where it was.
     pub fn int(&mut self) -> Result<i128, Wrong>
         ensures spelled { IfOk result (λ v. BeginsWith (SpellsInteger v) self.old.rest self.new.rest) }
-        ensures none { IfErr result (λ _. NoFront IsInteger self.old.rest) }
+        ensures none { IfErr result (λ _. NoPrefix IsInteger self.old.rest) }
         ensures range { IfOk result IsSpellable }
         ensures value { MatchResult result (λ v. integer_at self.old.rest ≡ Some (v, self.new.rest)) (λ _. integer_at self.old.rest ≡ None) }
         ensures place { self.new.place + length self.new.rest ≡ self.old.place + length self.old.rest }
@@ -93,7 +93,7 @@ impl<'a> Reader<'a> {
     /// UTF-8. The reader then stays where it was.
     pub fn text(&mut self) -> Result<&'a [u8], Wrong>
         ensures spelled { IfOk result (λ text. BeginsWith (SpellsText text.now) self.old.rest self.new.rest) }
-        ensures none { IfErr result (λ _. NoFront IsText self.old.rest) }
+        ensures none { IfErr result (λ _. NoPrefix IsText self.old.rest) }
         ensures utf8 { IfOk result (λ text. IsUtf8 text.now) }
         ensures short { IfOk result (λ text. length text.now < 2 ^ 32) }
         ensures value { MatchResult result (λ text. text_at self.old.rest ≡ Some (text.now, self.new.rest)) (λ _. text_at self.old.rest ≡ None) }
@@ -121,7 +121,7 @@ impl<'a> Reader<'a> {
     /// stays where it was.
     pub fn bin(&mut self) -> Result<&'a [u8], Wrong>
         ensures spelled { IfOk result (λ held. BeginsWith (SpellsBin held.now) self.old.rest self.new.rest) }
-        ensures none { IfErr result (λ _. NoFront IsBin self.old.rest) }
+        ensures none { IfErr result (λ _. NoPrefix IsBin self.old.rest) }
         ensures value { MatchResult result (λ held. bin_at self.old.rest ≡ Some (held.now, self.new.rest)) (λ _. bin_at self.old.rest ≡ None) }
         ensures place { self.new.place + length self.new.rest ≡ self.old.place + length self.old.rest }
         ensures wrong { IfErr result (λ e. e.place ≡ self.old.place) }
@@ -146,7 +146,7 @@ impl<'a> Reader<'a> {
     /// [`Wrong`] exactly where neither stands there. The reader then stays where it was.
     pub fn nil_or_u64(&mut self) -> Result<Option<u64>, Wrong>
         ensures spelled { IfOk result (λ v. BeginsWith (SpellsNilOr SpellsNumber v) self.old.rest self.new.rest) }
-        ensures none { IfErr result (λ _. NoFront (IsNilOr SpellsNumber) self.old.rest) }
+        ensures none { IfErr result (λ _. NoPrefix (IsNilOr SpellsNumber) self.old.rest) }
         ensures value { MatchResult result (λ v. nil_or_at number_at self.old.rest ≡ Some (v, self.new.rest)) (λ _. nil_or_at number_at self.old.rest ≡ None) }
         ensures place { self.new.place + length self.new.rest ≡ self.old.place + length self.old.rest }
         ensures wrong { IfErr result (λ e. e.place ≡ self.old.place) }
@@ -171,7 +171,7 @@ impl<'a> Reader<'a> {
     /// [`Wrong`] exactly where neither stands there. The reader then stays where it was.
     pub fn nil_or_text(&mut self) -> Result<Option<&'a [u8]>, Wrong>
         ensures spelled { IfOk result (λ v. BeginsWith (SpellsNilOr SpellsText (option_map (λ t. t.now) v)) self.old.rest self.new.rest) }
-        ensures none { IfErr result (λ _. NoFront (IsNilOr SpellsText) self.old.rest) }
+        ensures none { IfErr result (λ _. NoPrefix (IsNilOr SpellsText) self.old.rest) }
         ensures text { IfOk result (λ v. IfSome v (λ t. TextFits t.now)) }
         ensures value { MatchResult result (λ v. nil_or_at text_at self.old.rest ≡ Some (option_map (λ t. t.now) v, self.new.rest)) (λ _. nil_or_at text_at self.old.rest ≡ None) }
         ensures place { self.new.place + length self.new.rest ≡ self.old.place + length self.old.rest }
@@ -197,7 +197,7 @@ impl<'a> Reader<'a> {
     /// [`Wrong`] exactly where no header of an array stands there. The reader then stays where it was.
     pub fn array(&mut self) -> Result<u32, Wrong>
         ensures spelled { IfOk result (λ n. BeginsWith (SpellsArray n) self.old.rest self.new.rest) }
-        ensures none { IfErr result (λ _. NoFront IsArray self.old.rest) }
+        ensures none { IfErr result (λ _. NoPrefix IsArray self.old.rest) }
         ensures value { MatchResult result (λ n. array_at self.old.rest ≡ Some (n, self.new.rest)) (λ _. array_at self.old.rest ≡ None) }
         ensures place { self.new.place + length self.new.rest ≡ self.old.place + length self.old.rest }
         ensures wrong { IfErr result (λ e. e.place ≡ self.old.place) }

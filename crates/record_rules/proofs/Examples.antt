@@ -4,10 +4,10 @@ use Rattle.std.specs.Prelude.{sum_by, codes, nat_lt, nat_le, replicate}
 use Rattle.std.proofs.lemmas.Option.{none-some}
 use Rattle.std.specs.Option.{option_or}
 use Rattle.std.proofs.lemmas.Bool.{true≢false}
-use Rattle.record_rules.specs.Limits.{most_entries, most_held_weight, most_places}
+use Rattle.definitions.specs.Limits.{most_entries, most_held_weight, most_places}
 use Rattle.record_rules.specs.Records.{SealedRecord, Entry, Started, Local, Taken, record_weight, page_weight, event_weight}
 use Rattle.record_rules.specs.Journal.{PassedLimit, own_events, records_of, places_of, places_added, chain, first_limit_passed, RecordFits, Sound}
-use Rattle.record_rules.specs.Examples.{WorkedHundred, WorkedFull, WorkedLimits, caller, kv_page, kv_record, placed_record, started_ls, entry_of, local_entry, WorkedTotals, WorkedStatus, WorkedRunning, WorkedPages, WorkedFronts, WorkedUnsound, WorkedSound, WorkedOwners}
+use Rattle.record_rules.specs.Examples.{WorkedHundred, WorkedFull, WorkedLimits, caller, kv_page, kv_record, placed_record, started_ls, entry_of, local_entry, WorkedTotals, WorkedStatus, WorkedRunning, WorkedPages, WorkedPrefixes, WorkedUnsound, WorkedSound, WorkedOwners}
 use Rattle.record_rules.specs.Growth.{PageTooLong, has_long_text, GoOn, taken_entry, grow}
 use Rattle.record_rules.proofs.FullOwner.{gap_is_told, full_is_told}
 use Rattle.record_rules.proofs.NextPage.{next_page_is_taken}
@@ -68,23 +68,23 @@ kv_goes_on : (count idx : ℕ) → GoOn 2 (codes "kv") idx (kv_page count idx)
 kv_goes_on zero idx = tt
 kv_goes_on (suc count) idx = (refl, refl, refl, kv_goes_on count (idx + 1))
 
-pub fronts : WorkedFronts
-fronts = record {
+pub prefixes : WorkedPrefixes
+prefixes = record {
   goes_on = kv_goes_on 3 3;
   from_another = λ go. let h : ◌≡◌ {A = ℕ} 3 2 = go.2 in omega arith;
   other_host = λ go. let h : ◌≡◌ {A = ℕ} 2 1 = go.0 in omega arith;
   other_tag = λ go. let h : ◌≡◌ {A = ℕ} 2 7 = ap (λ (tag : List ℕ). length tag) go.1 in omega arith;
   leaves_one = λ go. let h : ◌≡◌ {A = ℕ} 5 4 = go.3.2 in omega arith;
-  front = refl;
+  prefix = refl;
   whole = refl;
   longer = λ is. let h : ◌≡◌ {A = ℕ} 3 2 = ap (λ (l : List SealedRecord). length l) is in omega arith;
   later = λ is. let h : ◌≡◌ {A = ℕ} 1 0 = ap idx_of_first is in omega arith;
-  two = record { is_front = refl; within = omega arith; longest = λ shorter. omega arith };
-  one = record { is_front = refl; within = omega arith; longest = λ shorter. omega arith };
-  all = record { is_front = refl; within = omega arith; longest = λ shorter. omega arith };
+  two = record { is_prefix = refl; within = omega arith; longest = λ shorter. omega arith };
+  one = record { is_prefix = refl; within = omega arith; longest = λ shorter. omega arith };
+  all = record { is_prefix = refl; within = omega arith; longest = λ shorter. omega arith };
   not_longest = λ is. let h : 264 < 264 = is.longest (omega arith) in omega arith;
   too_heavy = λ is. let h : 264 ≤ 263 = is.within in omega arith;
-  no_front = λ is. let h : ◌≡◌ {A = ℕ} 1 0 = ap idx_of_first is.is_front in omega arith;
+  no_prefix = λ is. let h : ◌≡◌ {A = ℕ} 1 0 = ap idx_of_first is.is_prefix in omega arith;
 }
   where
     idx_of_first : List SealedRecord → ℕ

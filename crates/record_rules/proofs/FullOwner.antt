@@ -5,7 +5,7 @@ use Rattle.std.specs.List.{list_any}
 use Rattle.std.specs.Option.{option_or}
 use Rattle.std.proofs.lemmas.Bool.{not-true, eq-eqb, ne_eqb}
 use Rattle.std.proofs.lemmas.List.{append-nil}
-use Rattle.record_rules.specs.Limits.{most_entries}
+use Rattle.definitions.specs.Limits.{most_entries}
 use Rattle.record_rules.specs.Records.{SealedRecord, Caller, Entry, record_weight}
 use Rattle.record_rules.specs.Journal.{own_events, records_of, chain, weight_passed, places_passed}
 use Rattle.record_rules.specs.Growth.{PageRefusal, PageGap, PageFull, same_place, is_fresh, fresh_of, too_long_at, forked_by, forked_at, wanted_idx, gap_at, owned_with, full_at, refusal_at, taken_entry, batch_or, grow}

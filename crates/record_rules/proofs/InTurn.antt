@@ -3,15 +3,14 @@ use Rattle.std.proofs.Common.{◌≡◌, ℕ, ◌+◌, Bool, true, false, not, �
 use Rattle.std.specs.Prelude.{find, nat_le, nat_lt, option_map, ◌==◌}
 use Rattle.std.specs.List.{list_any}
 use Rattle.std.specs.Option.{option_or}
-use Rattle.std.proofs.lemmas.Bool.{true≢false, false_from_ne_true}
 use Rattle.std.proofs.lemmas.List.{append-nil, length_push}
 use Rattle.std.proofs.lemmas.List.Sums.{sum_by-append}
 use Rattle.std.proofs.lemmas.List.Elements.{filter-append, filter_map-append}
-use Rattle.record_rules.specs.Limits.{most_page_weight, most_page_records}
+use Rattle.definitions.specs.Limits.{most_page_weight, most_page_records}
 use Rattle.record_rules.specs.Records.{SealedRecord, Caller, Entry, Event, Taken, record_weight, page_weight}
 use Rattle.record_rules.specs.Journal.{ChainPlace, PassedLimit, event_record, own_events, records_of, in_place, limit_passed}
-use Rattle.record_rules.specs.Growth.{PageRefusal, PageTooLong, PageForked, PageGap, PageFull, same_place, holder, is_fresh, fresh_of, has_long_text, passes_page, too_long_at, forked_by, forked_at, wanted_idx, gap_at, owned_with, full_at, refusal_at, first_refusal, taken_entry, batch_or, grow}
-use Rattle.record_rules.specs.InTurn.{PageTaken, nothing_taken, passed_over, taken_too, owned_then, is_too_long, take_or_full, take_next, take_beside, take_record, go_on, take_records, batch_of}
+use Rattle.record_rules.specs.Growth.{PageRefusal, PageTooLong, PageForked, PageGap, PageFull, same_place, holder, is_fresh, fresh_of, has_long_text, passes_page, forked_by, forked_at, wanted_idx, gap_at, owned_with, full_at, refusal_at, first_refusal, taken_entry, batch_or, grow}
+use Rattle.record_rules.specs.InTurn.{PageTaken, nothing_taken, passed_over, taken_too, take_or_full, take_beside, take_record, go_on, take_records, batch_of}
 use Rattle.record_rules.proofs.Owned.{records_of_taken}
 use Rattle.record_rules.proofs.Spots.{holder_is_fresh}
 use Rattle.record_rules.proofs.OneMore.{fresh_of_with_one}

@@ -1,16 +1,17 @@
 -- An owner's replies depend on what that owner holds alone.
-use Rattle.std.proofs.Common.{◌≡◌, ◌≢◌, ℕ, Bool, inl, inr, List, [], ◌∷◌, filter, take, drop, min, refl, sym, ◌∙◌, ap, subst}
-use Rattle.std.proofs.lemmas.Bool.{eq-eqb, ne_eqb, cases_eq, cases_Bool}
-use Rattle.record_rules.specs.Limits.{most_page_records, most_page_weight}
-use Rattle.record_rules.specs.Records.{Entry}
+use Rattle.std.proofs.Common.{◌≡◌, ◌≢◌, ℕ, inl, inr, List, [], ◌∷◌, filter, take, drop, min, refl, sym, ◌∙◌, ap, subst}
+use Rattle.std.proofs.lemmas.Bool.{eq-eqb, ne_eqb, cases_eq}
+use Rattle.definitions.specs.Limits.{most_page_records, most_page_weight}
+use Rattle.definitions.specs.Pages.{longest_within}
+use Rattle.record_rules.specs.Records.{Entry, record_weight}
 use Rattle.record_rules.specs.Journal.{own, own_events, counts_of, records_of, in_place}
 use Rattle.record_rules.specs.Growth.{grow, grown, growth_of}
-use Rattle.record_rules.specs.Answers.{OwnerRequest, OwnerReply, AskStatus, AskPage, SendPage, StatusIs, PageIs, front_within, growth_reply, reply_to, journal_after, OwnerAsked, OwnerTold, replies, asked_by, told_to}
+use Rattle.record_rules.specs.Answers.{OwnerRequest, OwnerReply, AskStatus, AskPage, SendPage, StatusIs, PageIs, growth_reply, reply_to, journal_after, OwnerAsked, OwnerTold, replies, asked_by, told_to}
 use Rattle.record_rules.proofs.Owned.{own_events_grown_other, own_events_grown_same, own_alone}
 
 pub replies_alike : (owner : ℕ) (request : OwnerRequest) (journal like : List Entry) → own_events journal owner ≡ own_events like owner → reply_to journal owner request ≡ reply_to like owner request
 replies_alike owner AskStatus journal like same = ap (λ owned. StatusIs (counts_of owned)) same
-replies_alike owner (AskPage host tag start count) journal like same = ap (λ owned. PageIs (front_within most_page_weight (take (min count most_page_records) (drop start (filter (in_place host tag) (records_of owned)))))) same
+replies_alike owner (AskPage host tag start count) journal like same = ap (λ owned. PageIs (longest_within record_weight most_page_weight (take (min count most_page_records) (drop start (filter (in_place host tag) (records_of owned)))))) same
 replies_alike owner (SendPage caller records) journal like same = ap (λ owned. growth_reply (growth_of caller owner owned records)) same
 
 abbrev told_first : ℕ → OwnerReply → List OwnerTold → List OwnerTold

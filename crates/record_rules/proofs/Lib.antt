@@ -1,5 +1,5 @@
 pub mod Examples
-pub mod Fronts
+pub mod Prefixes
 pub mod FullOwner
 pub mod Growth
 pub mod Isolation

@@ -11,7 +11,7 @@ use Rattle.record_rules.specs.Journal.{own_events, records_of, in_place, chain, 
 use Rattle.record_rules.specs.Growth.{PageGap, PageFull, same_place, fresh_of, GoOn, too_long_at, first_too_long, forked_by, forked_at, wanted_idx, gap_at, full_at, refusal_at, first_refusal, taken_entry, batch_or, grow}
 use Rattle.record_rules.proofs.Options.{option_or_none}
 use Rattle.record_rules.proofs.Spots.{in_place-from}
-use Rattle.record_rules.proofs.Fronts.{held_last, held_prefix}
+use Rattle.record_rules.proofs.Prefixes.{held_last, held_prefix}
 use Rattle.record_rules.proofs.Growth.{fresh_of-push}
 
 -- the records of the place are all below this idx
@@ -78,8 +78,8 @@ module _ (journal : List Entry) (caller : Caller) (owner host : ℕ) (tag : List
   one_by_one : (earlier : List SealedRecord) (r : SealedRecord) (rest : List SealedRecord) → own_events journal owner ++ map (Taken owner) (earlier ++ r ∷ rest) ≡ ((own_events journal owner ++ map (Taken owner) earlier) ++ Taken owner r ∷ []) ++ map (Taken owner) rest
   one_by_one earlier r rest =
       let owned = own_events journal owner in
-      let front = map (Taken owner) earlier in
-      ap (λ events. own_events journal owner ++ events) (map-append (Taken owner) earlier (r ∷ rest)) ∙ sym (append_assoc owned front (Taken owner r ∷ map (Taken owner) rest)) ∙ sym (append_assoc (owned ++ front) (Taken owner r ∷ []) (map (Taken owner) rest))
+      let prefix = map (Taken owner) earlier in
+      ap (λ events. own_events journal owner ++ events) (map-append (Taken owner) earlier (r ∷ rest)) ∙ sym (append_assoc owned prefix (Taken owner r ∷ map (Taken owner) rest)) ∙ sym (append_assoc (owned ++ prefix) (Taken owner r ∷ []) (map (Taken owner) rest))
 
   next_accepted : (earlier : List SealedRecord) (r : SealedRecord) (rest : List SealedRecord) → Ahead earlier → Next earlier r → too_long_at earlier r ≡ None → TotalsFit (held_of (own_events journal owner ++ map (Taken owner) (earlier ++ r ∷ rest))) → refusal_at owner (own_events journal owner) earlier r ≡ None
   next_accepted earlier r rest ahead next short room =

@@ -26,11 +26,11 @@ slice_get_push (z ∷ xs) y x (suc k) h =
       | inr new ↦ inr (ap suc new.0, new.1)
     ]
 
--- an element of the front of a list
-pub slice_get_front : {A : Type 0} → (xs ys : List A) (k : ℕ) → k < length xs → slice_get (xs ++ ys) k ≡ slice_get xs k
-slice_get_front [] ys k h = absurd (omega arith)
-slice_get_front (x ∷ xs) ys zero h = refl
-slice_get_front (x ∷ xs) ys (suc k) h = slice_get_front xs ys k (omega arith)
+-- an element of the prefix of a list
+pub slice_get_prefix : {A : Type 0} → (xs ys : List A) (k : ℕ) → k < length xs → slice_get (xs ++ ys) k ≡ slice_get xs k
+slice_get_prefix [] ys k h = absurd (omega arith)
+slice_get_prefix (x ∷ xs) ys zero h = refl
+slice_get_prefix (x ∷ xs) ys (suc k) h = slice_get_prefix xs ys k (omega arith)
 
 pub option_map_none : {A B : Type 0} → (f : A → B) (o : Option A) → option_map f o ≡ None → o ≡ None
 option_map_none f None h = refl

@@ -1,4 +1,4 @@
--- Pages that are cut from one numbered chain: no two of its records are forked, and a chain that is a front of it stays one.
+-- Pages that are cut from one numbered chain: no two of its records are forked, and a chain that is a prefix of it stays one.
 use Rattle.std.proofs.Common.{◌≡◌, ◌≢◌, ℕ, zero, suc, Bool, true, false, not, ◌&&◌, ◌||◌, ◌+◌, cond, ◌⊎◌, inl, inr, List, [], ◌∷◌, ◌++◌, length, map, filter, take, drop, Option, Some, None, Ok, Err, refl, sym, ◌∙◌, ap, subst, arith}
 use Rattle.std.specs.Prelude.{slice_get, option_map, ◌==◌}
 use Rattle.std.specs.Option.{option_or}
@@ -22,17 +22,17 @@ numbered_once origin r x numbered has_r has_x same =
     let places : at_x.0 ≡ at_r.0 = sym (numbered at_x.0 x at_x.1) ∙ same ∙ numbered at_r.0 r at_r.1 in
     same_Some x r (sym at_x.1 ∙ ap (slice_get origin) places ∙ at_r.1)
 
-front_from_places : (xs ys : List SealedRecord) → ((k : ℕ) (x : SealedRecord) → slice_get xs k ≡ Some x → slice_get ys k ≡ Some x) → IsPrefix xs ys
-front_from_places [] ys same = refl
-front_from_places (x ∷ xs) [] same = absurd (none-some x (same 0 x refl))
-front_from_places (x ∷ xs) (y ∷ ys) same =
+prefix_from_places : (xs ys : List SealedRecord) → ((k : ℕ) (x : SealedRecord) → slice_get xs k ≡ Some x → slice_get ys k ≡ Some x) → IsPrefix xs ys
+prefix_from_places [] ys same = refl
+prefix_from_places (x ∷ xs) [] same = absurd (none-some x (same 0 x refl))
+prefix_from_places (x ∷ xs) (y ∷ ys) same =
     let first : x ≡ y = sym (same_Some y x (same 0 x refl)) in
-    let rest = front_from_places xs ys (λ k z at. same (suc k) z at) in
+    let rest = prefix_from_places xs ys (λ k z at. same (suc k) z at) in
     λ i. first i ∷ rest i
 
--- a numbered list of records of a numbered one is a front of it
-numbered_front : (xs ys : List SealedRecord) → IsNumbered xs → IsNumbered ys → ((x : SealedRecord) → Has xs x → Has ys x) → IsPrefix xs ys
-numbered_front xs ys numbered numbered_too inside = front_from_places xs ys (λ k x at.
+-- a numbered list of records of a numbered one is a prefix of it
+numbered_prefix : (xs ys : List SealedRecord) → IsNumbered xs → IsNumbered ys → ((x : SealedRecord) → Has xs x → Has ys x) → IsPrefix xs ys
+numbered_prefix xs ys numbered numbered_too inside = prefix_from_places xs ys (λ k x at.
     let found = place_of_Has ys x (inside x (Has-from_place xs k x at)) in
     let same : found.0 ≡ k = sym (numbered_too found.0 x found.1) ∙ numbered k x at in
     ap (slice_get ys) (sym same) ∙ found.1)
@@ -60,12 +60,12 @@ pub record FromOrigin (journal : List Entry) (owner host : ℕ) (tag : List ℕ)
   pub paged : (x : SealedRecord) → Has page x → Has origin x
   pub placed : (x : SealedRecord) → Has page x → in_place host tag x ≡ true
 
--- after a page is taken the chain is still a front
-pub stays_front : (journal : List Entry) (of_host : ℕ) (caller : Caller) (owner host : ℕ) (tag : List ℕ) (origin page : List SealedRecord) (batch : List Entry) → Sound journal of_host → FromOrigin journal owner host tag origin page → grow journal caller owner page ≡ Ok batch → IsPrefix (chain (journal ++ batch) owner host tag) origin
-stays_front journal of_host caller owner host tag origin page batch sound from taken =
+-- after a page is taken the chain is still a prefix
+pub stays_prefix : (journal : List Entry) (of_host : ℕ) (caller : Caller) (owner host : ℕ) (tag : List ℕ) (origin page : List SealedRecord) (batch : List Entry) → Sound journal of_host → FromOrigin journal owner host tag origin page → grow journal caller owner page ≡ Ok batch → IsPrefix (chain (journal ++ batch) owner host tag) origin
+stays_prefix journal of_host caller owner host tag origin page batch sound from taken =
     let after : Sound (journal ++ batch) of_host = subst (λ result. Sound (grown journal result) of_host) taken (growth_stays_sound journal of_host caller owner page sound) in
     let fresh = fresh_of (records_of (own_events journal owner)) page in
-    numbered_front (chain (journal ++ batch) owner host tag) origin (after.numbered owner host tag) from.numbered (λ x has.
+    numbered_prefix (chain (journal ++ batch) owner host tag) origin (after.numbered owner host tag) from.numbered (λ x has.
     elim (Has-append (chain journal owner host tag) (filter (in_place host tag) (fresh_of (records_of (own_events journal owner)) page)) x (subst (λ xs. Has xs x) (chain_extended journal caller owner host tag page batch taken) has)) [
       | inl old ↦ from.chained x old
       | inr new ↦ from.paged x (fresh_has (records_of (own_events journal owner)) page x (Has-filter (in_place host tag) fresh x new))
@@ -161,18 +161,18 @@ go_on_placed host tag idx (r ∷ records) go_on x (inl here) = ap (in_place host
 go_on_placed host tag idx (r ∷ records) go_on x (inr later) = go_on_placed host tag (idx + 1) records go_on.3 x later
 
 slice_from_origin : (journal : List Entry) (owner host : ℕ) (tag : List ℕ) (origin : List SealedRecord) (start count : ℕ) → GoOn host tag 0 origin → IsPrefix (chain journal owner host tag) origin → FromOrigin journal owner host tag origin (take count (drop start origin))
-slice_from_origin journal owner host tag origin start count go_on front = record {
+slice_from_origin journal owner host tag origin start count go_on prefix = record {
   numbered = λ k r at. go_on_idx host tag 0 origin go_on k r at ∙ omega arith;
-  chained = λ x has. Has-take (length (chain journal owner host tag)) origin x (subst (λ xs. Has xs x) front has);
+  chained = λ x has. Has-take (length (chain journal owner host tag)) origin x (subst (λ xs. Has xs x) prefix has);
   paged = λ x has. Has-drop start origin x (Has-take count (drop start origin) x has);
   placed = λ x has. go_on_placed host tag 0 origin go_on x (Has-drop start origin x (Has-take count (drop start origin) x has));
 }
 
 pub slice_never_forks : (journal : List Entry) (caller : Caller) (owner host : ℕ) (tag : List ℕ) (origin : List SealedRecord) (start count position held : ℕ) → GoOn host tag 0 origin → IsPrefix (chain journal owner host tag) origin → grow journal caller owner (take count (drop start origin)) ≡ Err (PageForked position held) → ⊥
-slice_never_forks journal caller owner host tag origin start count position held go_on front = never_forked journal owner host tag origin (take count (drop start origin)) (slice_from_origin journal owner host tag origin start count go_on front) caller position held
+slice_never_forks journal caller owner host tag origin start count position held go_on prefix = never_forked journal owner host tag origin (take count (drop start origin)) (slice_from_origin journal owner host tag origin start count go_on prefix) caller position held
 
-pub slice_keeps_front : (journal : List Entry) (of_host : ℕ) (caller : Caller) (owner host : ℕ) (tag : List ℕ) (origin : List SealedRecord) (start count : ℕ) (batch : List Entry) → Sound journal of_host → GoOn host tag 0 origin → IsPrefix (chain journal owner host tag) origin → grow journal caller owner (take count (drop start origin)) ≡ Ok batch → IsPrefix (chain (journal ++ batch) owner host tag) origin
-slice_keeps_front journal of_host caller owner host tag origin start count batch sound go_on front taken = stays_front journal of_host caller owner host tag origin (take count (drop start origin)) batch sound (slice_from_origin journal owner host tag origin start count go_on front) taken
+pub slice_keeps_prefix : (journal : List Entry) (of_host : ℕ) (caller : Caller) (owner host : ℕ) (tag : List ℕ) (origin : List SealedRecord) (start count : ℕ) (batch : List Entry) → Sound journal of_host → GoOn host tag 0 origin → IsPrefix (chain journal owner host tag) origin → grow journal caller owner (take count (drop start origin)) ≡ Ok batch → IsPrefix (chain (journal ++ batch) owner host tag) origin
+slice_keeps_prefix journal of_host caller owner host tag origin start count batch sound go_on prefix taken = stays_prefix journal of_host caller owner host tag origin (take count (drop start origin)) batch sound (slice_from_origin journal owner host tag origin start count go_on prefix) taken
 
 -- ---- the other chains
 

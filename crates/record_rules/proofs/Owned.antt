@@ -4,7 +4,7 @@ use Rattle.std.proofs.lemmas.Bool.{eq-eqb, ne_eqb, cases_Bool}
 use Rattle.std.proofs.lemmas.List.{map-append, append-nil}
 use Rattle.std.proofs.lemmas.List.Elements.{filter-append, filter_map-append}
 use Rattle.record_rules.specs.Records.{SealedRecord, Caller, Entry, Taken}
-use Rattle.record_rules.specs.Journal.{is_owned_by, owned_by, own, events_of, own_of, own_events, records_of, event_record}
+use Rattle.record_rules.specs.Journal.{is_owned_by, owned_by, own, events_of, own_events, records_of, event_record}
 use Rattle.record_rules.specs.Growth.{PageRefusal, taken_entry, batch_or, grow, grown, fresh_of, first_refusal}
 
 pub own_events-append : (journal more : List Entry) (owner : ℕ) → own_events (journal ++ more) owner ≡ own_events journal owner ++ own_events more owner

@@ -4,7 +4,7 @@ use Rattle.std.specs.Prelude.{nat_le, nat_lt}
 use Rattle.std.specs.Option.{option_or}
 use Rattle.std.proofs.lemmas.Bool.{le-leb}
 use Rattle.std.proofs.lemmas.List.{append-nil, length_push}
-use Rattle.record_rules.specs.Limits.{most_page_weight, most_page_records}
+use Rattle.definitions.specs.Limits.{most_page_weight, most_page_records}
 use Rattle.record_rules.specs.Records.{SealedRecord, Caller, Entry, Event, page_weight}
 use Rattle.record_rules.specs.Journal.{own_events, records_of}
 use Rattle.record_rules.specs.Growth.{PageTooLong, fresh_of, has_long_text, too_long_at, first_too_long, forked_at, gap_at, full_at, refusal_at, first_refusal, taken_entry, batch_or, grow}

@@ -1,6 +1,6 @@
 -- An entry that may follow a sound journal leaves it sound.
 use Rattle.std.proofs.Common.{◌≡◌, ◌≢◌, ℕ, ◌<◌, cond, inl, inr, List, [], ◌∷◌, ◌++◌, filter, take, Some, refl, sym, ◌∙◌, ap, subst, arith, Option}
-use Rattle.std.specs.Prelude.{slice_get, All, IsTrue}
+use Rattle.std.specs.Prelude.{slice_get, IsTrue}
 use Rattle.std.proofs.lemmas.Bool.{eq-eqb, ne_eqb, cases_eq}
 use Rattle.std.proofs.lemmas.Option.{none-some}
 use Rattle.std.proofs.lemmas.List.{append-nil, map-append, take_at, take-append-le}
@@ -8,7 +8,7 @@ use Rattle.std.proofs.lemmas.List.Elements.{All-push, filter-append}
 use Rattle.definitions.specs.Journal.{StartedRecord}
 use Rattle.record_rules.specs.Records.{SealedRecord, Entry, Event, Started, Local, Taken, event_weight}
 use Rattle.record_rules.specs.Journal.{event_owner, event_place, is_owned_by, events_of, own_of, records_of, in_place, IsNumbered, EventFits, IsOfHost, TotalsFit, held_of, closes_id, is_running, SoundEvents, Sound, MayComeNext, MayFollow}
-use Rattle.record_rules.proofs.Options.{slice_get_push, slice_get_front}
+use Rattle.record_rules.proofs.Options.{slice_get_push, slice_get_prefix}
 use Rattle.record_rules.proofs.Numbering.{chains_stay_numbered}
 use Rattle.record_rules.proofs.Totals.{room_from_none, TotalsFit-more}
 
@@ -19,10 +19,10 @@ ClosesRunning events = (k closed : ℕ) (r : SealedRecord) → slice_get events 
 closes_more : (events : List Event) (event : Event) → ClosesRunning events → ((closed : ℕ) → IsTrue (closes_id closed event) → IsTrue (is_running closed events)) → ClosesRunning (events ++ event ∷ [])
 closes_more events event before here k closed r at =
     elim (slice_get_push events event (Local (Some closed) r) k at) [
-      | inl old ↦ subst (λ front. IsTrue (is_running closed front)) (sym (take-append-le k events (event ∷ []) (let within = old.0 in omega arith))) (before k closed r old.1)
+      | inl old ↦ subst (λ prefix. IsTrue (is_running closed prefix)) (sym (take-append-le k events (event ∷ []) (let within = old.0 in omega arith))) (before k closed r old.1)
       | inr new ↦
           let closes : IsTrue (closes_id closed event) = subst (λ e. IsTrue (closes_id closed e)) (sym new.1) (eq-eqb closed closed refl) in
-          subst (λ front. IsTrue (is_running closed front)) (sym (take_at events (event ∷ []) k (sym new.0))) (here closed closes)
+          subst (λ prefix. IsTrue (is_running closed prefix)) (sym (take_at events (event ∷ []) k (sym new.0))) (here closed closes)
     ]
 
 -- the ids of started commands differ, with one more event
@@ -33,10 +33,10 @@ apart_more : (events : List Event) (event : Event) → StartedApart events → (
 apart_more events event before here i k s t below at_i at_k =
     elim (slice_get_push events event (Started t) k at_k) [
       | inl old ↦
-          let early : slice_get events i ≡ Some (Started s) = sym (slice_get_front events (event ∷ []) i (let within = old.0 in omega arith)) ∙ at_i in
+          let early : slice_get events i ≡ Some (Started s) = sym (slice_get_prefix events (event ∷ []) i (let within = old.0 in omega arith)) ∙ at_i in
           before i k s t below early old.1
       | inr new ↦
-          let early : slice_get events i ≡ Some (Started s) = sym (slice_get_front events (event ∷ []) i (let last = new.0 in omega arith)) ∙ at_i in
+          let early : slice_get events i ≡ Some (Started s) = sym (slice_get_prefix events (event ∷ []) i (let last = new.0 in omega arith)) ∙ at_i in
           here i s t early new.1
     ]
 

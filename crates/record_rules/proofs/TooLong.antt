@@ -2,7 +2,7 @@
 use Rattle.std.proofs.Common.{◌≡◌, ◌<◌, ◌≤◌, ◌||◌, List, [], ◌∷◌, ◌++◌, length, None}
 use Rattle.std.specs.Prelude.{nat_le, nat_lt}
 use Rattle.std.proofs.lemmas.Bool.{ltb-false, leb-false, or_parts}
-use Rattle.record_rules.specs.Limits.{most_name_bytes, most_tag_bytes, most_page_weight, most_page_records}
+use Rattle.definitions.specs.Limits.{most_name_bytes, most_tag_bytes, most_page_weight, most_page_records}
 use Rattle.record_rules.specs.Records.{SealedRecord, page_weight}
 use Rattle.record_rules.specs.Growth.{PageRefusal, PageTooLong, too_long_at}
 use Rattle.record_rules.proofs.Options.{cond_none}
@@ -26,11 +26,11 @@ within_page earlier r short =
     let parts = or_parts (many || heavy) ((tag || version) || name) all.0 in
     let page = or_parts many heavy parts.0 in
     let texts = or_parts (tag || version) name parts.1 in
-    let front = or_parts tag version texts.0 in
+    let prefix = or_parts tag version texts.0 in
     record {
       count = leb-false most_page_records (length earlier) page.0;
       together = ltb-false most_page_weight (page_weight (earlier ++ r ∷ [])) page.1;
-      tag = ltb-false most_tag_bytes (length r.tag) front.0;
-      version = ltb-false most_tag_bytes (length r.version) front.1;
+      tag = ltb-false most_tag_bytes (length r.tag) prefix.0;
+      version = ltb-false most_tag_bytes (length r.version) prefix.1;
       host_name = ltb-false most_name_bytes (length r.host_name) texts.1;
     }

@@ -6,7 +6,7 @@ use Rattle.std.proofs.lemmas.Bool.{ltb-false}
 use Rattle.std.proofs.lemmas.List.{append-nil, length_push}
 use Rattle.std.proofs.lemmas.List.Sums.{sum_by-append}
 use Rattle.std.proofs.lemmas.List.Elements.{filter_map-append}
-use Rattle.record_rules.specs.Limits.{most_entries, most_held_weight, most_places}
+use Rattle.definitions.specs.Limits.{most_entries, most_held_weight, most_places}
 use Rattle.record_rules.specs.Records.{Event, Started, Local, Taken, event_weight}
 use Rattle.record_rules.specs.Journal.{ChainPlace, PassedLimit, TotalsFit, held_of, event_record, event_place, records_of, places_of, places_added, entries_passed, weight_passed, places_passed, limit_passed}
 use Rattle.record_rules.proofs.Options.{cond_none, option_or_none}

@@ -1,24 +1,14 @@
 -- What an owner is answered, and runs of requests of all owners.
-use Rattle.std.specs.Prelude.{◌≡◌, ℕ, ◌+◌, ◌-◌, ◌<◌, ◌≤◌, List, [], ◌∷◌, length, filter, take, drop, min, Result, Ok, Err, if◌then◌else◌, ◌==◌, nat_le}
-use Rattle.record_rules.specs.Limits.{most_page_records, most_page_weight}
-use Rattle.record_rules.specs.Records.{SealedRecord, Caller, Entry, record_weight, page_weight}
+use Rattle.std.specs.Prelude.{ℕ, List, [], ◌∷◌, length, filter, take, drop, min, Result, Ok, Err, ◌==◌}
+use Rattle.definitions.specs.Limits.{most_page_records, most_page_weight}
+use Rattle.definitions.specs.Pages.{longest_within}
+use Rattle.record_rules.specs.Records.{SealedRecord, Caller, Entry, record_weight}
 use Rattle.record_rules.specs.Journal.{ChainCount, status, chain}
 use Rattle.record_rules.specs.Growth.{PageRefusal, grow, grown}
 
--- the longest front of the records with at most this weight together
-abbrev pub front_within : ℕ → List SealedRecord → List SealedRecord
-front_within weight [] = []
-front_within weight (r ∷ records) = if nat_le (record_weight r) weight then r ∷ front_within (weight - record_weight r) records else []
-
--- the records are the longest front of those with at most this weight together
-pub record IsLongestFront (weight : ℕ) (records front : List SealedRecord) : Type 0 where
-  pub is_front : front ≡ take (length front) records
-  pub within : page_weight front ≤ weight
-  pub longest : length front < length records → weight < page_weight (take (length front + 1) records)
-
 -- a page of a chain: from `start`, at most `count` and at most 100 records, as many as the weight of a page allows
 abbrev pub page : List Entry → ℕ → ℕ → List ℕ → ℕ → ℕ → List SealedRecord
-page journal owner host tag start count = front_within most_page_weight (take (min count most_page_records) (drop start (chain journal owner host tag)))
+page journal owner host tag start count = longest_within record_weight most_page_weight (take (min count most_page_records) (drop start (chain journal owner host tag)))
 
 -- what an owner may ask for: its status, a page of one of its chains, and that a page is taken in
 pub data OwnerRequest : Type 0 where

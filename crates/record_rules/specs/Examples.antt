@@ -2,11 +2,12 @@
 use Rattle.std.specs.Prelude.{true, false, ◌≡◌, ◌≢◌, ◌++◌, ℕ, zero, suc, ◌+◌, List, [], ◌∷◌, length, map, replicate, sum_by, codes, Option, Some, None, Ok, Err}
 use Rattle.definitions.specs.Journal.{StartedRecord}
 use Rattle.definitions.specs.Examples.{ls}
+use Rattle.definitions.specs.Pages.{IsLongestWithin}
 use Rattle.record_rules.specs.Records.{SealedRecord, Caller, Entry, Event, Started, Local, Taken, record_weight, page_weight, event_weight}
 use Rattle.record_rules.specs.Journal.{chain, ChainPlace, Ascends, own_events, records_of, places_of, places_added, status, held, first_limit_passed, running, StartedFits, RecordFits, EventFits, Sound}
 use Rattle.definitions.specs.Prefixes.{IsPrefix}
 use Rattle.record_rules.specs.Growth.{holder, is_fresh, too_long_at, owned_with, PageTooLong, PageForked, PageGap, PageFull, taken_entry, GoOn, grow}
-use Rattle.record_rules.specs.Answers.{page, IsLongestFront, AskStatus, AskPage, SendPage, StatusIs, PageIs, PageAdded, PageRefused, replies}
+use Rattle.record_rules.specs.Answers.{page, AskStatus, AskPage, SendPage, StatusIs, PageIs, PageAdded, PageRefused, replies}
 
 -- ---- the records and entries of the examples
 
@@ -131,27 +132,27 @@ pub record WorkedPages : Type 0 where
   -- of a page that goes on, only what is new weighs on its owner
   pub held_with : owned_with 5 (Taken 5 (kv_record 0 1000) ∷ []) (kv_page 2 0) ≡ Taken 5 (kv_record 0 1000) ∷ Taken 5 (kv_record 1 1001) ∷ []
 
--- ---- fronts
+-- ---- prefixes
 
--- three records that go on in one chain, and fronts of them
-pub record WorkedFronts : Type 0 where
+-- three records that go on in one chain, and prefixes of them
+pub record WorkedPrefixes : Type 0 where
   pub goes_on : GoOn 2 (codes "kv") 3 (kv_page 3 3)
   pub from_another : GoOn 2 (codes "kv") 2 (kv_page 3 3) → ⊥
   pub other_host : GoOn 1 (codes "kv") 3 (kv_page 3 3) → ⊥
   pub other_tag : GoOn 2 (codes "history") 3 (kv_page 3 3) → ⊥
   pub leaves_one : GoOn 2 (codes "kv") 3 (kv_record 3 1003 ∷ kv_record 5 1005 ∷ []) → ⊥
-  -- two of three are a front, three of two aren't, and neither is what begins later
-  pub front : IsPrefix (kv_page 2 0) (kv_page 3 0)
+  -- two of three are a prefix, three of two aren't, and neither is what begins later
+  pub prefix : IsPrefix (kv_page 2 0) (kv_page 3 0)
   pub whole : IsPrefix (kv_page 3 0) (kv_page 3 0)
   pub longer : IsPrefix (kv_page 3 0) (kv_page 2 0) → ⊥
   pub later : IsPrefix (kv_page 1 1) (kv_page 3 0) → ⊥
   -- each weighs 132: within 264 are two, and within a byte less one; all where there is room for more
-  pub two : IsLongestFront 264 (kv_page 3 0) (kv_page 2 0)
-  pub one : IsLongestFront 263 (kv_page 3 0) (kv_page 1 0)
-  pub all : IsLongestFront 1000 (kv_page 3 0) (kv_page 3 0)
-  pub not_longest : IsLongestFront 264 (kv_page 3 0) (kv_page 1 0) → ⊥
-  pub too_heavy : IsLongestFront 263 (kv_page 3 0) (kv_page 2 0) → ⊥
-  pub no_front : IsLongestFront 264 (kv_page 3 0) (kv_page 2 1) → ⊥
+  pub two : IsLongestWithin record_weight 264 (kv_page 3 0) (kv_page 2 0)
+  pub one : IsLongestWithin record_weight 263 (kv_page 3 0) (kv_page 1 0)
+  pub all : IsLongestWithin record_weight 1000 (kv_page 3 0) (kv_page 3 0)
+  pub not_longest : IsLongestWithin record_weight 264 (kv_page 3 0) (kv_page 1 0) → ⊥
+  pub too_heavy : IsLongestWithin record_weight 263 (kv_page 3 0) (kv_page 2 0) → ⊥
+  pub no_prefix : IsLongestWithin record_weight 264 (kv_page 3 0) (kv_page 2 1) → ⊥
 
 -- a page of idx 0 to 99 for owner 5, and what comes behind it
 pub record WorkedHundred : Type 0 where

@@ -1,8 +1,8 @@
 -- What a page of records adds to what an owner holds, or why it is refused.
-use Rattle.std.specs.Prelude.{◌≡◌, ℕ, ◌+◌, ◌&&◌, ◌||◌, Bool, not, List, [], ◌∷◌, ◌++◌, length, map, filter, take, find, Option, Some, None, Result, Ok, Err, option_map, ⊤, if◌then◌else◌, ◌==◌, nat_lt, nat_le}
+use Rattle.std.specs.Prelude.{◌≡◌, ℕ, ◌+◌, ◌&&◌, ◌||◌, Bool, not, List, [], ◌∷◌, ◌++◌, length, map, filter, find, Option, Some, None, Result, Ok, Err, option_map, ⊤, if◌then◌else◌, ◌==◌, nat_lt, nat_le}
 use Rattle.std.specs.List.{list_any}
 use Rattle.std.specs.Option.{option_or}
-use Rattle.record_rules.specs.Limits.{most_name_bytes, most_tag_bytes, most_page_weight, most_page_records}
+use Rattle.definitions.specs.Limits.{most_name_bytes, most_tag_bytes, most_page_weight, most_page_records}
 use Rattle.record_rules.specs.Records.{SealedRecord, Caller, Entry, Event, Taken, record_weight, page_weight}
 use Rattle.record_rules.specs.Journal.{PassedLimit, own_events, records_of, in_place, limit_passed}
 

@@ -1,6 +1,6 @@
 -- A page taken record by record, as code takes it. It is the same as the growth that is told of the page as a whole.
 use Rattle.std.specs.Prelude.{ℕ, ◌+◌, ◌||◌, Bool, List, [], ◌∷◌, ◌++◌, length, map, filter, Option, Some, None, Result, Ok, Err, if◌then◌else◌, ◌==◌, nat_lt, nat_le}
-use Rattle.record_rules.specs.Limits.{most_page_weight, most_page_records}
+use Rattle.definitions.specs.Limits.{most_page_weight, most_page_records}
 use Rattle.record_rules.specs.Records.{SealedRecord, Caller, Entry, Event, Taken, record_weight}
 use Rattle.record_rules.specs.Journal.{PassedLimit, records_of, in_place, limit_passed}
 use Rattle.record_rules.specs.Growth.{PageRefusal, PageTooLong, PageForked, PageGap, PageFull, holder, has_long_text, taken_entry}

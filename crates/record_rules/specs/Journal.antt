@@ -8,7 +8,7 @@ use Rattle.std.specs.declared.cmp.Ordering.TheVariants.{Less}
 use Rattle.std.specs.Ordering.{is_lt, nat_cmp, ordering_then}
 use Rattle.std.specs.Cmp.Lexicographic.{slice_cmp}
 use Rattle.definitions.specs.Journal.{StartedRecord}
-use Rattle.record_rules.specs.Limits.{most_value_bytes, most_name_bytes, most_tag_bytes, most_page_weight, most_entries, most_held_weight, most_places}
+use Rattle.definitions.specs.Limits.{most_value_bytes, most_name_bytes, most_tag_bytes, most_page_weight, most_entries, most_held_weight, most_places}
 use Rattle.record_rules.specs.Records.{SealedRecord, Entry, Event, Started, Local, Taken, record_weight, event_weight}
 
 -- ---- what an owner holds

@@ -1,13 +1,14 @@
 -- The laws of the journal, of growth and of answers, as statements. Each is the contract of the function of its name.
 use Rattle.std.specs.Prelude.{◌≡◌, ◌≢◌, ℕ, ◌+◌, ◌<◌, ◌≤◌, ◌⊎◌, ◌&&◌, not, List, [], ◌∷◌, ◌++◌, length, map, filter, take, drop, min, All, None, Ok, Err, if◌then◌else◌}
-use Rattle.record_rules.specs.Limits.{most_page_records, most_page_weight}
-use Rattle.record_rules.specs.Records.{SealedRecord, Caller, Entry, Event, Taken, page_weight}
+use Rattle.definitions.specs.Limits.{most_page_records, most_page_weight}
+use Rattle.definitions.specs.Pages.{IsLongestWithin}
+use Rattle.record_rules.specs.Records.{SealedRecord, Caller, Entry, Event, Taken, record_weight, page_weight}
 use Rattle.record_rules.specs.Journal.{own, own_events, records_of, in_place, chain, IsNumbered, ChainCount, TotalsFit, held_of, held, running, Ascends, status, count_at, Sound, MayFollow}
 use Rattle.record_rules.specs.OneMore.{own_with, chain_with, running_with, held_with}
 use Rattle.definitions.specs.Prefixes.{IsPrefix}
 use Rattle.record_rules.specs.Growth.{PageRefusal, PageTooLong, PageForked, same_place, is_fresh, IsHeld, GoOn, taken_entry, fresh_of, wanted_idx, first_too_long, batch_or, grow, grown}
 use Rattle.record_rules.specs.InTurn.{nothing_taken, take_records, batch_of}
-use Rattle.record_rules.specs.Answers.{page, IsLongestFront, OwnerRequest, reply_to, OwnerAsked, replies, asked_by, told_to}
+use Rattle.record_rules.specs.Answers.{page, OwnerRequest, reply_to, OwnerAsked, replies, asked_by, told_to}
 
 -- a journal without entries is sound
 abbrev pub EmptyIsSound : Type 0
@@ -21,9 +22,9 @@ EntryKeepsSound = (journal : List Entry) (host : ℕ) (entry : Entry) → Sound 
 abbrev pub SoundEntryFollows : Type 0
 SoundEntryFollows = (journal : List Entry) (host : ℕ) (entry : Entry) → Sound (journal ++ entry ∷ []) host → Sound journal host × MayFollow journal host entry.event
 
--- the front of a sound journal is sound
-abbrev pub FrontIsSound : Type 0
-FrontIsSound = (journal more : List Entry) (host : ℕ) → Sound (journal ++ more) host → Sound journal host
+-- the prefix of a sound journal is sound
+abbrev pub PrefixIsSound : Type 0
+PrefixIsSound = (journal more : List Entry) (host : ℕ) → Sound (journal ++ more) host → Sound journal host
 
 -- a status tells the length of each chain, and lists no empty one
 abbrev pub StatusTellsLengths : Type 0
@@ -86,9 +87,9 @@ GrowthIsInTurn = (journal : List Entry) (caller : Caller) (owner : ℕ) (records
 
 -- ---- pages
 
--- a page is the longest front within its weight of the next records, at most `count` and at most 100 of them
+-- a page is the longest prefix within its weight of the next records, at most `count` and at most 100 of them
 abbrev pub PageIsLongest : Type 0
-PageIsLongest = (journal : List Entry) (owner host : ℕ) (tag : List ℕ) (start count : ℕ) → IsLongestFront most_page_weight (take (min count most_page_records) (drop start (chain journal owner host tag))) (page journal owner host tag start count)
+PageIsLongest = (journal : List Entry) (owner host : ℕ) (tag : List ℕ) (start count : ℕ) → IsLongestWithin record_weight most_page_weight (take (min count most_page_records) (drop start (chain journal owner host tag))) (page journal owner host tag start count)
 
 -- a page leaves a sound journal sound, whether it is taken or refused
 abbrev pub GrowthKeepsSound : Type 0
@@ -142,15 +143,15 @@ RepliesAlone = (owner : ℕ) (requests : List OwnerAsked) (journal like : List E
 abbrev pub RepliesAsAlone : Type 0
 RepliesAsAlone = (owner : ℕ) (requests : List OwnerAsked) (journal : List Entry) → told_to owner (replies journal requests) ≡ replies (own journal owner) (asked_by owner requests)
 
--- In what follows `origin` is a whole chain of one host and tag, of which the owner's chain is a front, and the page is any slice of it.
+-- In what follows `origin` is a whole chain of one host and tag, of which the owner's chain is a prefix, and the page is any slice of it.
 
 -- such a page is never refused as a fork
 abbrev pub SliceNeverForks : Type 0
 SliceNeverForks = (journal : List Entry) (caller : Caller) (owner host : ℕ) (tag : List ℕ) (origin : List SealedRecord) (start count position id : ℕ) → GoOn host tag 0 origin → IsPrefix (chain journal owner host tag) origin → grow journal caller owner (take count (drop start origin)) ≡ Err (PageForked position id) → ⊥
 
--- and where it is taken, the owner's chain is still a front of the origin
-abbrev pub SliceKeepsFront : Type 0
-SliceKeepsFront = (journal : List Entry) (of_host : ℕ) (caller : Caller) (owner host : ℕ) (tag : List ℕ) (origin : List SealedRecord) (start count : ℕ) (batch : List Entry) → Sound journal of_host → GoOn host tag 0 origin → IsPrefix (chain journal owner host tag) origin → grow journal caller owner (take count (drop start origin)) ≡ Ok batch → IsPrefix (chain (journal ++ batch) owner host tag) origin
+-- and where it is taken, the owner's chain is still a prefix of the origin
+abbrev pub SliceKeepsPrefix : Type 0
+SliceKeepsPrefix = (journal : List Entry) (of_host : ℕ) (caller : Caller) (owner host : ℕ) (tag : List ℕ) (origin : List SealedRecord) (start count : ℕ) (batch : List Entry) → Sound journal of_host → GoOn host tag 0 origin → IsPrefix (chain journal owner host tag) origin → grow journal caller owner (take count (drop start origin)) ≡ Ok batch → IsPrefix (chain (journal ++ batch) owner host tag) origin
 
 -- and the owner's other chains stay as they were
 abbrev pub SliceLeavesOtherChains : Type 0

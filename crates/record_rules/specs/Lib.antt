@@ -4,6 +4,5 @@ pub mod Growth
 pub mod InTurn
 pub mod Journal
 pub mod Laws
-pub mod Limits
 pub mod OneMore
 pub mod Records

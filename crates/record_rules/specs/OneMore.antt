@@ -1,5 +1,5 @@
 -- What one more entry makes of a journal's chains, totals and running commands: code that keeps them goes by these words.
-use Rattle.std.specs.Prelude.{ℕ, ◌+◌, ◌&&◌, not, List, [], ◌∷◌, ◌++◌, length, filter, sum_by, Option, Some, None, if◌then◌else◌, ◌==◌}
+use Rattle.std.specs.Prelude.{ℕ, ◌+◌, ◌&&◌, not, List, [], ◌∷◌, ◌++◌, length, filter, sum_by, Some, None, if◌then◌else◌, ◌==◌}
 use Rattle.definitions.specs.Journal.{StartedRecord}
 use Rattle.record_rules.specs.Records.{SealedRecord, Event, Started, Local, Taken, event_weight}
 use Rattle.record_rules.specs.Journal.{is_owned_by, records_of, in_place, Totals, held_of, places_of, places_added, event_place}

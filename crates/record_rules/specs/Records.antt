@@ -1,7 +1,7 @@
 -- What a journal is made of, as numbers and lists of bytes. Hosts and ids are numbers below 2 ^ 128, a text is the list of its bytes.
 use Rattle.std.specs.Prelude.{ℕ, ◌+◌, List, length, sum_by, Option}
 use Rattle.definitions.specs.Journal.{StartedRecord}
-use Rattle.record_rules.specs.Limits.{fixed_weight}
+use Rattle.definitions.specs.Limits.{fixed_weight}
 
 -- a sealed record: the idx is its place in the chain of its host and tag, the timestamp is in nanoseconds since 1970
 pub record SealedRecord : Type 0 where

@@ -10,8 +10,8 @@
 //! the crate takes what a started command is.
 #![tactic(auto)]
 
-ghost use Rattle.record_rules.specs.Laws.{EmptyIsSound, EntryKeepsSound, SoundEntryFollows, FrontIsSound, StatusTellsLengths, StatusListsNoEmpty, StatusAscends, LengthsMakeStatus, StatusIsDetermined, OwnWithOne, ChainWithOne, RunningWithOne, HeldWithOne, CountWithOne, FreshWithOne, FreshOfWithOne, WantedWithOne, GrowthIsInTurn, PageIsLongest, GrowthKeepsSound, RefusalLeavesAll, TakenPageFits, NextPageIsTaken, RecordsPastHundred, GrowthExtendsChains, GrowthLeavesOthers, GrowthHoldsPage, RepeatAddsNothing, StandingAddsNothing, RepliesAlike, RepliesAlone, RepliesAsAlone, SliceNeverForks, SliceKeepsFront, SliceLeavesOtherChains};
-ghost use Rattle.record_rules.specs.Examples.{WorkedTotals, WorkedLimits, WorkedStatus, WorkedRunning, WorkedPages, WorkedFronts, WorkedHundred, WorkedFull, WorkedSound, WorkedUnsound, WorkedOwners};
+ghost use Rattle.record_rules.specs.Laws.{EmptyIsSound, EntryKeepsSound, SoundEntryFollows, PrefixIsSound, StatusTellsLengths, StatusListsNoEmpty, StatusAscends, LengthsMakeStatus, StatusIsDetermined, OwnWithOne, ChainWithOne, RunningWithOne, HeldWithOne, CountWithOne, FreshWithOne, FreshOfWithOne, WantedWithOne, GrowthIsInTurn, PageIsLongest, GrowthKeepsSound, RefusalLeavesAll, TakenPageFits, NextPageIsTaken, RecordsPastHundred, GrowthExtendsChains, GrowthLeavesOthers, GrowthHoldsPage, RepeatAddsNothing, StandingAddsNothing, RepliesAlike, RepliesAlone, RepliesAsAlone, SliceNeverForks, SliceKeepsPrefix, SliceLeavesOtherChains};
+ghost use Rattle.record_rules.specs.Examples.{WorkedTotals, WorkedLimits, WorkedStatus, WorkedRunning, WorkedPages, WorkedPrefixes, WorkedHundred, WorkedFull, WorkedSound, WorkedUnsound, WorkedOwners};
 
 /// A journal without entries is sound.
 pub fn empty_is_sound()
@@ -29,9 +29,9 @@ pub fn sound_entry_follows()
     ensures { SoundEntryFollows }
 {}
 
-/// The front of a sound journal is sound.
-pub fn front_is_sound()
-    ensures { FrontIsSound }
+/// The prefix of a sound journal is sound.
+pub fn prefix_is_sound()
+    ensures { PrefixIsSound }
 {}
 
 /// A status tells the length of each chain, and 0 of a place that it doesn't list.
@@ -84,7 +84,7 @@ pub fn growth_is_in_turn()
     ensures { GrowthIsInTurn }
 {}
 
-/// A page is the longest front, within 4,194,304 bytes of weight, of the chain's next records, at most
+/// A page is the longest prefix, within 4,194,304 bytes of weight, of the chain's next records, at most
 /// `count` and at most 100 of them.
 pub fn page_is_longest()
     ensures { PageIsLongest }
@@ -160,14 +160,14 @@ pub fn replies_as_alone()
     ensures { RepliesAsAlone }
 {}
 
-/// A slice of a chain, of which the owner's own chain is a front, is never refused as a fork.
+/// A slice of a chain, of which the owner's own chain is a prefix, is never refused as a fork.
 pub fn slice_never_forks()
     ensures { SliceNeverForks }
 {}
 
-/// Where such a slice is taken, the owner's chain is still a front of that chain.
-pub fn slice_keeps_front()
-    ensures { SliceKeepsFront }
+/// Where such a slice is taken, the owner's chain is still a prefix of that chain.
+pub fn slice_keeps_prefix()
+    ensures { SliceKeepsPrefix }
 {}
 
 /// Where such a slice is taken, the owner's chains of other hosts and tags stay as they were.
@@ -201,10 +201,10 @@ pub fn worked_pages()
     ensures { WorkedPages }
 {}
 
-/// Fronts of three records, worked out: what goes on in a chain, what is a front, and the longest one
+/// Prefixes of three records, worked out: what goes on in a chain, what is a prefix, and the longest one
 /// within a weight.
-pub fn worked_fronts()
-    ensures { WorkedFronts }
+pub fn worked_prefixes()
+    ensures { WorkedPrefixes }
 {}
 
 /// A page of 100 records, worked out: taken, taken again, and what comes behind it.

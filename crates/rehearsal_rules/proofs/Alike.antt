@@ -1,9 +1,8 @@
 -- After the last transfers all nodes hold the same.
-use Rattle.std.proofs.Common.{◌≡◌, ◌≢◌, ℕ, zero, suc, ◌+◌, ◌<◌, ◌≤◌, take-take, inl, inr, Some, None, List, [], ◌∷◌, length, take, drop, refl, sym, ◌∙◌, ap, subst, arith, length-append}
+use Rattle.std.proofs.Common.{◌≡◌, ◌≢◌, ℕ, zero, suc, ◌<◌, ◌≤◌, inl, inr, Some, None, List, [], ◌∷◌, length, refl, sym, ◌∙◌, ap, subst, arith}
 use Rattle.std.specs.Prelude.{Option, nat_lt}
 use Rattle.std.specs.List.{AllByRecursion}
 use Rattle.std.proofs.lemmas.Bool.{cases_Bool, cases_eq, ltb-true, ltb-false, le-ltb}
-use Rattle.record_rules.specs.Records.{SealedRecord}
 use Rattle.record_rules.specs.Journal.{ChainPlace, chain, status, count_at}
 use Rattle.definitions.specs.Prefixes.{IsPrefix}
 use Rattle.record_rules.proofs.Members.{Has}
@@ -21,7 +20,7 @@ use Rattle.rehearsal_rules.specs.Rehearsal.{key_of, hosts_of, Rehearsed}
 use Rattle.rehearsal_rules.specs.Laws.{InEachRehearsal, EndAlike, HasAll}
 use Rattle.rehearsal_rules.proofs.Nodes.{is_a_host, node_has_host}
 use Rattle.rehearsal_rules.proofs.Reached.{leads_keep, empty_holds_all, hosts_fit, played_leads}
-use Rattle.rehearsal_rules.proofs.Levels.{count, HasFronts, Moved, Part, Did, steps_move, step_up, step_down}
+use Rattle.rehearsal_rules.proofs.Levels.{count, HasPrefixes, Moved, Part, Did, steps_move, step_up, step_down}
 
 -- the part of a chain that a step sends, and that it takes
 up_part : PlanStep → Option Part
@@ -137,9 +136,9 @@ module _ (store : KeyedStore) (well : SealsWell store) (hosts : ℕ) where
             ];
       }
 
-  -- each chain of each node is a front of the server's
+  -- each chain of each node is a prefix of the server's
   abbrev ServerFirst : World → Type 0
-  ServerFirst w = (node : ℕ) → node ≤ hosts → HasFronts w 0 node
+  ServerFirst w = (node : ℕ) → node ≤ hosts → HasPrefixes w 0 node
 
   record Downloaded (nodes : List ℕ) (w new : World) : Type 0 where
     server : new.journal 0 ≡ w.journal 0
@@ -157,11 +156,11 @@ module _ (store : KeyedStore) (well : SealsWell store) (hosts : ℕ) where
               | inl same ↦ subst (λ n. count w n host tag ≤ count new n host tag) (sym same) (one.moved.rises host tag)
               | inr differ ↦ subst (λ journal. count w other host tag ≤ length (chain journal 0 host tag)) (sym (one.moved.others other differ)) (omega arith)
             ];
-        first = λ fronts other below.
+        first = λ prefixes other below.
             elim (cases_eq other node) [
-              | inl same ↦ subst (λ n. HasFronts new 0 n) (sym same) (one.moved.fronts (fronts node within))
+              | inl same ↦ subst (λ n. HasPrefixes new 0 n) (sym same) (one.moved.prefixes (prefixes node within))
               | inr differ ↦ λ host tag.
-                  subst (λ journal. IsPrefix (chain journal 0 host tag) (chain (new.journal 0) 0 host tag)) (sym (one.moved.others other differ)) (subst (λ journal. IsPrefix (chain (w.journal other) 0 host tag) (chain journal 0 host tag)) (sym server) (fronts other below host tag))
+                  subst (λ journal. IsPrefix (chain journal 0 host tag) (chain (new.journal 0) 0 host tag)) (sym (one.moved.others other differ)) (subst (λ journal. IsPrefix (chain (w.journal other) 0 host tag) (chain journal 0 host tag)) (sym server) (prefixes other below host tag))
             ];
         reaches = λ other has host tag.
             elim has [
@@ -171,7 +170,7 @@ module _ (store : KeyedStore) (well : SealsWell store) (hosts : ℕ) where
       }
 
   all_down : (nodes : List ℕ) → AreHosts nodes → (w new : World) → Holds (hosts_of hosts) w → Each Downloads nodes w new → Downloaded nodes w new
-  all_down [] fit w new holds same = subst (Downloaded [] w) (sym same) (record { server = refl; rises = λ node host tag. omega arith; first = λ fronts. fronts; reaches = λ node has. absurd has })
+  all_down [] fit w new holds same = subst (Downloaded [] w) (sym same) (record { server = refl; rises = λ node host tag. omega arith; first = λ prefixes. prefixes; reaches = λ node has. absurd has })
   all_down (node ∷ nodes) fit w new holds each =
       let next = each.0 in
       let some : 1 ≤ node = fit.0.0 in
@@ -182,7 +181,7 @@ module _ (store : KeyedStore) (well : SealsWell store) (hosts : ℕ) where
       record {
         server = rest.server ∙ one.server;
         rises = λ other host tag. let first : count w other host tag ≤ count next other host tag = one.rises other host tag in let then : count next other host tag ≤ count new other host tag = rest.rises other host tag in omega (arith, first, then);
-        first = λ fronts. rest.first (one.first fronts);
+        first = λ prefixes. rest.first (one.first prefixes);
         reaches = λ other has host tag.
             elim has [
               | inl here ↦
@@ -211,30 +210,30 @@ module _ (keyed : List ℕ → KeyedStore) (seed hosts events : ℕ) (w : World)
   no_longer (suc n) within host tag =
       subst (λ journal. length (chain journal 0 host tag) ≤ count rehearsed.uploaded 0 host tag) (sym (uploaded.others (suc n) (λ same. absurd (omega (arith, same))))) (uploaded.reaches (suc n) (is_a_host hosts (suc n) (omega arith) within) host tag)
 
-  server_first : (node : ℕ) → node ≤ hosts → HasFronts rehearsed.uploaded 0 node
+  server_first : (node : ℕ) → node ≤ hosts → HasPrefixes rehearsed.uploaded 0 node
   server_first node within host tag =
       elim (find_place (0 ∷ hosts_of hosts) host) [
-        | inl found ↦ prefixes-nest (chain (rehearsed.uploaded.journal node) 0 host tag) (chain (rehearsed.uploaded.journal 0) 0 host tag) (chain (rehearsed.uploaded.journal found.0) 0 host tag) (uploaded.holds.fronts node found.0 host tag found.1) (uploaded.holds.fronts 0 found.0 host tag found.1) (no_longer node within host tag)
+        | inl found ↦ prefixes-nest (chain (rehearsed.uploaded.journal node) 0 host tag) (chain (rehearsed.uploaded.journal 0) 0 host tag) (chain (rehearsed.uploaded.journal found.0) 0 host tag) (uploaded.holds.prefixes node found.0 host tag found.1) (uploaded.holds.prefixes 0 found.0 host tag found.1) (no_longer node within host tag)
         | inr none ↦ subst (λ xs. IsPrefix xs (chain (rehearsed.uploaded.journal 0) 0 host tag)) (sym (uploaded.holds.strangers node host tag none)) refl
       ]
 
   as_server : (node : ℕ) → node ≤ hosts → (host : ℕ) (tag : List ℕ) → chain (w.journal node) 0 host tag ≡ chain (w.journal 0) 0 host tag
   as_server zero within host tag = refl
   as_server (suc n) within host tag =
-      let front = downloaded.first server_first (suc n) within host tag in
-      let short : count w (suc n) host tag ≤ count w 0 host tag = prefix-is_shorter (chain (w.journal (suc n)) 0 host tag) (chain (w.journal 0) 0 host tag) front in
+      let prefix = downloaded.first server_first (suc n) within host tag in
+      let short : count w (suc n) host tag ≤ count w 0 host tag = prefix-is_shorter (chain (w.journal (suc n)) 0 host tag) (chain (w.journal 0) 0 host tag) prefix in
       let long : count w 0 host tag ≤ count w (suc n) host tag = subst (λ journal. length (chain journal 0 host tag) ≤ count w (suc n) host tag) (sym downloaded.server) (downloaded.reaches (suc n) (is_a_host hosts (suc n) (omega arith) within) host tag) in
-      prefixes-alike (chain (w.journal (suc n)) 0 host tag) (chain (w.journal 0) 0 host tag) (chain (w.journal 0) 0 host tag) front (prefix-itself (chain (w.journal 0) 0 host tag)) (omega (arith, short, long))
+      prefixes-alike (chain (w.journal (suc n)) 0 host tag) (chain (w.journal 0) 0 host tag) (chain (w.journal 0) 0 host tag) prefix (prefix-itself (chain (w.journal 0) 0 host tag)) (omega (arith, short, long))
 
   -- the server's chain of a host is that of the host's own node, as it was before the last transfers
   own_chain : (host : ℕ) → 1 ≤ host → host ≤ hosts → (tag : List ℕ) → chain (w.journal 0) 0 host tag ≡ chain (rehearsed.played.world.journal host) 0 host tag
   own_chain host some_host within tag =
       let same : rehearsed.uploaded.journal host ≡ rehearsed.played.world.journal host = uploaded.others host (λ none. absurd (omega (arith, none, some_host))) in
-      let front = uploaded.holds.fronts 0 host host tag (node_has_host hosts host within) in
-      let short : count rehearsed.uploaded 0 host tag ≤ count rehearsed.uploaded host host tag = prefix-is_shorter (chain (rehearsed.uploaded.journal 0) 0 host tag) (chain (rehearsed.uploaded.journal host) 0 host tag) front in
+      let prefix = uploaded.holds.prefixes 0 host host tag (node_has_host hosts host within) in
+      let short : count rehearsed.uploaded 0 host tag ≤ count rehearsed.uploaded host host tag = prefix-is_shorter (chain (rehearsed.uploaded.journal 0) 0 host tag) (chain (rehearsed.uploaded.journal host) 0 host tag) prefix in
       let long : count rehearsed.uploaded host host tag ≤ count rehearsed.uploaded 0 host tag = subst (λ journal. length (chain journal 0 host tag) ≤ count rehearsed.uploaded 0 host tag) (sym same) (uploaded.reaches host (is_a_host hosts host some_host within) host tag) in
       ap (λ journal. chain journal 0 host tag) downloaded.server
-      ∙ prefixes-alike (chain (rehearsed.uploaded.journal 0) 0 host tag) (chain (rehearsed.uploaded.journal host) 0 host tag) (chain (rehearsed.uploaded.journal host) 0 host tag) front (prefix-itself (chain (rehearsed.uploaded.journal host) 0 host tag)) (omega (arith, short, long))
+      ∙ prefixes-alike (chain (rehearsed.uploaded.journal 0) 0 host tag) (chain (rehearsed.uploaded.journal host) 0 host tag) (chain (rehearsed.uploaded.journal host) 0 host tag) prefix (prefix-itself (chain (rehearsed.uploaded.journal host) 0 host tag)) (omega (arith, short, long))
       ∙ ap (λ journal. chain journal 0 host tag) same
 
 pub end_with_all : InEachRehearsal HasAll

@@ -3,7 +3,7 @@ use Rattle.std.proofs.Common.{◌≡◌, ℕ, zero, suc, ◌+◌, ◌<◌, ◌�
 use Rattle.std.specs.Prelude.{All, Option, option_map, ◌==◌}
 use Rattle.std.proofs.lemmas.Bool.{eqb-true, and_parts}
 use Rattle.std.proofs.lemmas.Option.{none-some, slice_get_within}
-use Rattle.record_rules.specs.Limits.{most_page_records}
+use Rattle.definitions.specs.Limits.{most_page_records}
 use Rattle.record_rules.specs.Records.{SealedRecord, Entry}
 use Rattle.record_rules.specs.Journal.{own_events, records_of, in_place, chain, IsNumbered}
 use Rattle.record_rules.specs.Growth.{GoOn, same_place, holder, IsHeld}
@@ -18,10 +18,10 @@ goes_on_behind host tag idx zero records go_on = subst (λ n. GoOn host tag n re
 goes_on_behind host tag idx (suc k) [] go_on = tt
 goes_on_behind host tag idx (suc k) (r ∷ records) go_on = subst (λ n. GoOn host tag n (drop k records)) (omega arith) (goes_on_behind host tag (idx + 1) k records go_on.3)
 
-goes_on_front : (host : ℕ) (tag : List ℕ) (idx k : ℕ) (records : List SealedRecord) → GoOn host tag idx records → GoOn host tag idx (take k records)
-goes_on_front host tag idx zero records go_on = tt
-goes_on_front host tag idx (suc k) [] go_on = tt
-goes_on_front host tag idx (suc k) (r ∷ records) go_on = (go_on.0, go_on.1, go_on.2, goes_on_front host tag (idx + 1) k records go_on.3)
+goes_on_prefix : (host : ℕ) (tag : List ℕ) (idx k : ℕ) (records : List SealedRecord) → GoOn host tag idx records → GoOn host tag idx (take k records)
+goes_on_prefix host tag idx zero records go_on = tt
+goes_on_prefix host tag idx (suc k) [] go_on = tt
+goes_on_prefix host tag idx (suc k) (r ∷ records) go_on = (go_on.0, go_on.1, go_on.2, goes_on_prefix host tag (idx + 1) k records go_on.3)
 
 -- the records of a page begin with the idx that was asked for
 pub page_goes_on : (journal : List Entry) (owner host : ℕ) (tag : List ℕ) (start count : ℕ) → GoOn host tag 0 (chain journal owner host tag) → GoOn host tag start (page journal owner host tag start count)
@@ -29,7 +29,7 @@ page_goes_on journal owner host tag start count go_on =
     let left = drop start (chain journal owner host tag) in
     let next = take (min count most_page_records) left in
     let behind : GoOn host tag start left = subst (λ n. GoOn host tag n left) (omega arith) (goes_on_behind host tag 0 start (chain journal owner host tag) go_on) in
-    subst (GoOn host tag start) (sym (page_is_longest journal owner host tag start count).is_front) (goes_on_front host tag start (length (page journal owner host tag start count)) next (goes_on_front host tag start (min count most_page_records) left behind))
+    subst (GoOn host tag start) (sym (page_is_longest journal owner host tag start count).is_prefix) (goes_on_prefix host tag start (length (page journal owner host tag start count)) next (goes_on_prefix host tag start (min count most_page_records) left behind))
 
 -- ---- records that stand
 

@@ -8,7 +8,7 @@ use Rattle.record_rules.specs.Journal.{ChainPlace, chain, Sound}
 use Rattle.definitions.specs.Prefixes.{IsPrefix}
 use Rattle.record_rules.specs.Growth.{GoOn, grow}
 use Rattle.record_rules.proofs.Members.{Has}
-use Rattle.record_rules.proofs.Origins.{slice_keeps_front, slice_leaves_other_chains}
+use Rattle.record_rules.proofs.Origins.{slice_keeps_prefix, slice_leaves_other_chains}
 use Rattle.record_rules.proofs.Repeats.{page_stands}
 use Rattle.step_rules.specs.Store.{KeyedStore, SealsWell}
 use Rattle.plan_rules.specs.Plans.{PlanStep, Upload, Download, step_between}
@@ -28,9 +28,9 @@ use Rattle.rehearsal_rules.proofs.Counts.{page_goes_on, standing_reach}
 abbrev pub count : World → (node host : ℕ) → List ℕ → ℕ
 count w node host tag = length (chain (w.journal node) 0 host tag)
 
--- each chain of the one node is a front of that of the other one
-abbrev pub HasFronts : World → (giver taker : ℕ) → Type 0
-HasFronts w giver taker = (host : ℕ) (tag : List ℕ) → IsPrefix (chain (w.journal taker) 0 host tag) (chain (w.journal giver) 0 host tag)
+-- each chain of the one node is a prefix of that of the other one
+abbrev pub HasPrefixes : World → (giver taker : ℕ) → Type 0
+HasPrefixes w giver taker = (host : ℕ) (tag : List ℕ) → IsPrefix (chain (w.journal taker) 0 host tag) (chain (w.journal giver) 0 host tag)
 
 journal_there : (w : World) (node : ℕ) (journal : List Entry) → (with_journal w node journal).journal node ≡ journal
 journal_there w node journal = ap (λ b. cond b journal (w.journal node)) (eq-eqb node node refl)
@@ -59,7 +59,7 @@ module _ (store : KeyedStore) (well : SealsWell store) (hosts : ℕ) where
     pub holds : Holds (hosts_of hosts) new
     pub others : (node : ℕ) → node ≢ taker → new.journal node ≡ w.journal node
     pub rises : (host : ℕ) (tag : List ℕ) → count w taker host tag ≤ count new taker host tag
-    pub fronts : HasFronts w giver taker → HasFronts new giver taker
+    pub prefixes : HasPrefixes w giver taker → HasPrefixes new giver taker
 
   -- what all steps of a list leave
   pub record StepsMoved (giver taker : ℕ) (part_of : PlanStep → Option Part) (steps : List PlanStep) (w new : World) : Type 0 where
@@ -67,14 +67,14 @@ module _ (store : KeyedStore) (well : SealsWell store) (hosts : ℕ) where
     pub reaches : (step : PlanStep) → Has steps step → Reaches taker (part_of step) w new
 
   moved_none : (giver taker : ℕ) (w new : World) → Holds (hosts_of hosts) w → new ≡ w → Moved giver taker w new
-  moved_none giver taker w new holds same = subst (Moved giver taker w) (sym same) (record { holds = holds; others = λ node differ. refl; rises = λ host tag. omega arith; fronts = λ fronts. fronts })
+  moved_none giver taker w new holds same = subst (Moved giver taker w) (sym same) (record { holds = holds; others = λ node differ. refl; rises = λ host tag. omega arith; prefixes = λ prefixes. prefixes })
 
   moved_both : (giver taker : ℕ) (w between new : World) → Moved giver taker w between → Moved giver taker between new → Moved giver taker w new
   moved_both giver taker w between new first second = record {
     holds = second.holds;
     others = λ node differ. second.others node differ ∙ first.others node differ;
     rises = λ host tag. let one : count w taker host tag ≤ count between taker host tag = first.rises host tag in let two : count between taker host tag ≤ count new taker host tag = second.rises host tag in omega (arith, one, two);
-    fronts = λ fronts. second.fronts (first.fronts fronts);
+    prefixes = λ prefixes. second.prefixes (first.prefixes prefixes);
   }
 
   -- ---- a page
@@ -101,21 +101,21 @@ module _ (store : KeyedStore) (well : SealsWell store) (hosts : ℕ) where
           let grown : count next taker host tag ≡ count w taker host tag + length (chain batch 0 host tag) = ap (λ journal. length (chain journal 0 host tag)) at_taker ∙ ap length (chain_append (w.journal taker) batch 0 host tag) ∙ length-append (chain (w.journal taker) 0 host tag) (chain batch 0 host tag) in
           omega (arith, grown)
 
-      keeps_fronts : HasFronts w giver taker → HasFronts next giver taker
-      keeps_fronts fronts host tag =
+      keeps_fronts : HasPrefixes w giver taker → HasPrefixes next giver taker
+      keeps_fronts prefixes host tag =
           let given = next_page w giver place start end in
           let whole = chain (w.journal giver) 0 place.host place.tag in
           let cut = page_is_cut (w.journal giver) 0 place.host place.tag start (end - start) whole (prefix-itself whole) in
           let slice : grow (w.journal taker) caller 0 (take (length given) (drop (length cut.before) whole)) ≡ Ok batch = ap (grow (w.journal taker) caller 0) (cut_is_slice given whole cut) ∙ taken in
           let there : IsPrefix (chain (w.journal taker ++ batch) 0 host tag) (chain (w.journal giver) 0 host tag) =
           elim (same_or_other place.host host place.tag tag) [
-            | inl same ↦ subst (λ t. IsPrefix (chain (w.journal taker ++ batch) 0 host t) (chain (w.journal giver) 0 host t)) same.1 (subst (λ h. IsPrefix (chain (w.journal taker ++ batch) 0 h place.tag) (chain (w.journal giver) 0 h place.tag)) same.0 (slice_keeps_front (w.journal taker) taker caller 0 place.host place.tag whole (length cut.before) (length given) batch (holds.sound taker taker (node_has_host hosts taker takes)) giver_goes_on (fronts place.host place.tag) slice))
-            | inr other ↦ subst (λ xs. IsPrefix xs (chain (w.journal giver) 0 host tag)) (sym (slice_leaves_other_chains (w.journal taker) caller 0 place.host place.tag whole (length cut.before) (length given) host tag batch giver_goes_on other slice)) (fronts host tag)
+            | inl same ↦ subst (λ t. IsPrefix (chain (w.journal taker ++ batch) 0 host t) (chain (w.journal giver) 0 host t)) same.1 (subst (λ h. IsPrefix (chain (w.journal taker ++ batch) 0 h place.tag) (chain (w.journal giver) 0 h place.tag)) same.0 (slice_keeps_prefix (w.journal taker) taker caller 0 place.host place.tag whole (length cut.before) (length given) batch (holds.sound taker taker (node_has_host hosts taker takes)) giver_goes_on (prefixes place.host place.tag) slice))
+            | inr other ↦ subst (λ xs. IsPrefix xs (chain (w.journal giver) 0 host tag)) (sym (slice_leaves_other_chains (w.journal taker) caller 0 place.host place.tag whole (length cut.before) (length given) host tag batch giver_goes_on other slice)) (prefixes host tag)
           ] in
           subst (λ journal. IsPrefix (chain (next.journal taker) 0 host tag) (chain journal 0 host tag)) (sym (elsewhere giver differ)) (subst (λ journal. IsPrefix (chain journal 0 host tag) (chain (w.journal giver) 0 host tag)) (sym at_taker) there)
 
       page_moves : Moved giver taker w next
-      page_moves = record { holds = now_holds; others = elsewhere; rises = longer; fronts = keeps_fronts }
+      page_moves = record { holds = now_holds; others = elsewhere; rises = longer; prefixes = keeps_fronts }
 
       page_reaches : start ≤ count w taker place.host place.tag → start + length (next_page w giver place start end) ≤ count next taker place.host place.tag
       page_reaches low =

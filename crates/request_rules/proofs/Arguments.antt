@@ -1,15 +1,14 @@
 -- Arguments of the kinds of a call's number are those of a call, and of one call alone.
 use Rattle.std.proofs.Common.{◌≡◌, ℕ, zero, suc, ◌-◌, ◌^◌, ◌<◌, ◌≤◌, ℤ, pos, negsuc, Bool, true, false, eqb, List, [], ◌∷◌, length, Option, Some, None, refl, sym, ap, subst, ◌∙◌, arith}
-use Rattle.std.specs.Prelude.{◌==◌, if◌then◌else◌}
 use Rattle.std.proofs.lemmas.Bool.{eqb-true}
 use Rattle.definitions.specs.Calls.{SearchMode, by_prefix, by_substring, mode_number, Argument, a_text, an_integer, Kind, any_text, id_digits, signed_64, from_to, start_kinds, end_kinds, IsOfKind, SpellsArguments}
-use Rattle.definitions.specs.Reading.{id_value}
 use Rattle.definitions.proofs.Ids.{id_value-id_text}
 use Rattle.definitions.proofs.Numbered.{by_test}
 use Rattle.view_rules.specs.Answers.{Scope, of_all, of_hostname, of_session, of_cwd, ScopedQuery}
-use Rattle.step_rules.specs.Calls.{most_listed, Call, start_call, end_call, delete_call, search_call, kv_set_call, kv_delete_call, kv_get_call, kv_list_call, alias_set_call, alias_delete_call, alias_list_call, status_call}
+use Rattle.definitions.specs.Limits.{most_listed}
+use Rattle.step_rules.specs.Calls.{Call, start_call, end_call, delete_call, search_call, kv_set_call, kv_delete_call, kv_get_call, kv_list_call, alias_set_call, alias_delete_call, alias_list_call, status_call}
 use Rattle.request_rules.specs.Reading.{mode_of, scope_of, unique_of, search_of, call_from}
-use Rattle.request_rules.specs.Requests.{end_number, request_number, limit_kind, authored_kinds, delete_kinds, search_kinds, one_text, two_texts, three_texts, kv_list_kinds, alias_list_kinds, no_kinds, call_kinds, scope_number, IsScopeText, unique_number, a_number, an_id, author_argument, HasArguments}
+use Rattle.request_rules.specs.Requests.{request_number, limit_kind, authored_kinds, delete_kinds, search_kinds, one_text, two_texts, three_texts, kv_list_kinds, alias_list_kinds, no_kinds, call_kinds, scope_number, IsScopeText, unique_number, a_number, an_id, HasArguments}
 
 -- ---- the kinds of a call's arguments
 

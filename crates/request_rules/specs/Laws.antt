@@ -3,7 +3,7 @@ use Rattle.std.specs.Prelude.{◌≡◌, ℕ, ◌-◌, ◌≤◌, ◌⊎◌, ◌
 use Rattle.definitions.specs.Spelling.{IsBytes}
 use Rattle.definitions.specs.Calls.{Argument, WrongAt}
 use Rattle.definitions.specs.Reading.{call_at}
-use Rattle.definitions.specs.Frames.{most_payload_bytes}
+use Rattle.definitions.specs.Limits.{most_payload_bytes}
 use Rattle.step_rules.specs.Calls.{Call, CallFits}
 use Rattle.request_rules.specs.Reading.{request_at}
 use Rattle.request_rules.specs.Requests.{request_number, call_kinds, HasArguments, SpellsRequest}

@@ -4,7 +4,8 @@ use Rattle.std.specs.Prelude.{◌≡◌, ℕ, ◌-◌, ◌<◌, ◌^◌, pos, Li
 use Rattle.definitions.specs.Ids.{id_text}
 use Rattle.definitions.specs.Calls.{mode_number, Argument, a_text, an_integer, Kind, any_text, id_digits, signed_64, from_to, start_kinds, end_kinds, SpellsNumbered}
 use Rattle.view_rules.specs.Answers.{Scope, of_all, of_hostname, of_session, of_cwd, ScopedQuery}
-use Rattle.step_rules.specs.Calls.{most_listed, Call, start_call, end_call, delete_call, search_call, kv_set_call, kv_delete_call, kv_get_call, kv_list_call, alias_set_call, alias_delete_call, alias_list_call, status_call}
+use Rattle.definitions.specs.Limits.{most_listed}
+use Rattle.step_rules.specs.Calls.{Call, start_call, end_call, delete_call, search_call, kv_set_call, kv_delete_call, kv_get_call, kv_list_call, alias_set_call, alias_delete_call, alias_list_call, status_call}
 
 -- ---- calls by their numbers
 

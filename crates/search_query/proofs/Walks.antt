@@ -220,14 +220,14 @@ module _ (query : Query) (s : ViewState) where
 
   pub ends : (first : ℕ) (memo : List (Option Bool)) (hits : List ShownCommand) (bytes skip steps : ℕ) → IsOnWay query s (walked_in s.order) [] memo hits bytes skip first steps → IsAnswerOf query (newest_of s) (seen_of hits)
   ends first memo hits bytes skip steps way =
-      record { rest = []; front = sym whole_of ∙ sym way.whole ∙ ap (λ (hs : List HistoryRecord). seen_of hits ++ drop skip hs) (none_left query.unique) ∙ ap (λ (hs : List HistoryRecord). seen_of hits ++ hs) (drop-nil skip); fits = way.fits; most = λ next others e. absurd cc }
+      record { rest = []; begins = sym whole_of ∙ sym way.whole ∙ ap (λ (hs : List HistoryRecord). seen_of hits ++ drop skip hs) (none_left query.unique) ∙ ap (λ (hs : List HistoryRecord). seen_of hits ++ hs) (drop-nil skip); fits = way.fits; most = λ next others e. absurd cc }
 
   pub breaks : (first : ℕ) (w : Walked) (h : ShownCommand) (left : List Walked) (memo : List (Option Bool)) (hits : List ShownCommand) (bytes skip steps : ℕ) → (way : IsOnWay query s (walked_in s.order) (w ∷ left) memo hits bytes skip first steps)
       → hit_at query way.seen s w ≡ Some (command_seen h) → skip ≤ 0 → (FitsPage hit_bytes query.limit (seen_of hits ++ command_seen h ∷ []) → ⊥) → IsAnswerOf query (newest_of s) (seen_of hits)
   breaks first w h left memo hits bytes skip steps way some none full =
       record {
         rest = command_seen h ∷ uniques query.unique (filter_map (hit_at query (more_seen query.unique way.seen (command_seen h).command) s) left);
-        front = sym whole_of ∙ sym way.whole ∙ here query s (walked_in s.order) first w (command_seen h) left way.seen hits skip some none;
+        begins = sym whole_of ∙ sym way.whole ∙ here query s (walked_in s.order) first w (command_seen h) left way.seen hits skip some none;
         fits = way.fits;
         most = λ next others e fits. full (let same : command_seen h ≡ next = cc in subst (λ (x : HistoryRecord). FitsPage hit_bytes query.limit (seen_of hits ++ x ∷ [])) (sym same) fits);
       }

@@ -1,12 +1,12 @@
 -- What a turn at the book leaves of a pass, and who finds it.
-use Rattle.std.proofs.Common.{◌≡◌, ◌≢◌, ℕ, ◌+◌, ◌-◌, ◌<◌, ◌≤◌, ◌^◌, true, false, ◌⊎◌, inl, inr, List, [], ◌∷◌, ◌++◌, length, take, drop, cond, refl, sym, ◌∙◌, ap, subst, arith, append_assoc}
+use Rattle.std.proofs.Common.{◌≡◌, ◌≢◌, ℕ, ◌+◌, ◌-◌, ◌<◌, ◌≤◌, ◌^◌, false, ◌⊎◌, inl, inr, List, [], ◌∷◌, ◌++◌, length, take, drop, cond, refl, sym, ◌∙◌, ap, subst, arith, append_assoc}
 use Rattle.std.specs.Prelude.{nat_lt, All}
 use Rattle.std.proofs.Math.Nat.{max-le}
 use Rattle.std.proofs.Math.Seq.{drop-append-add}
 use Rattle.std.proofs.lemmas.Bool.{cases_Bool, ltb-true, ne_eqb}
 use Rattle.std.proofs.lemmas.List.{append-nil, drop_at}
 use Rattle.std.proofs.lemmas.List.Elements.{All-append, All-take, All-drop, All-weaker}
-use Rattle.definitions.specs.Counts.{Rose, RoseBy, has_risen}
+use Rattle.definitions.specs.Counts.{RoseBy, has_risen}
 use Rattle.definitions.specs.Step.{Used, then_used}
 use Rattle.definitions.proofs.Counts.{has_risen-true, Rose-has_risen}
 use Rattle.definitions.proofs.Prefixes.{prefix-of, prefix-then, longer-prefix}
@@ -15,7 +15,7 @@ use Rattle.step_rules.specs.Store.{KeyedStore}
 use Rattle.step_rules.specs.Sealing.{Sealing}
 use Rattle.session_rules.specs.Sessions.{Asked, SessionAnswer, SessionReply, caller_of, SessionRequest, is_of, Session}
 use Rattle.session_rules.specs.Turns.{TurnAnswers}
-use Rattle.session_rules.specs.Passes.{TurnItem, Pass, failures, PassMoves, knowing, split_off, SplitsOff, longer, joined, Joins, tells_disk_fault, TurnsOf}
+use Rattle.session_rules.specs.Passes.{TurnItem, Pass, failures, PassMoves, knowing, split_off, SplitsOff, longer, joined, Joins, TurnsOf}
 use Rattle.session_rules.specs.Stores.{StoreState, store_of, store_book, StoreTurn}
 use Rattle.session_rules.specs.Books.{Book, MayGive, Finds, turn_between, after_turn, PassTakes, PassGives, PassTurn}
 use Rattle.session_rules.specs.Laws.{BeginsToFind, MovesAndFinds, PassHistory, PassHistoryBegins}

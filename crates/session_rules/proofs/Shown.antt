@@ -1,28 +1,26 @@
 -- What a call is shown, or told that it doesn't know, is within the bounds of one reply, at a sound journal.
-use Rattle.std.proofs.Common.{◌≡◌, ℕ, ◌+◌, ◌≤◌, Bool, true, false, cond, inl, inr, ◌⊎◌, Option, Some, None, List, [], ◌∷◌, ◌++◌, length, map, take, drop, filter, refl, sym, ◌∙◌, ap, subst, arith, length-append}
-use Rattle.std.specs.Prelude.{All, bytes_eq, not, ◌&&◌, if◌then◌else◌}
+use Rattle.std.proofs.Common.{◌≡◌, ℕ, ◌+◌, ◌≤◌, Bool, true, false, cond, inl, inr, Option, Some, None, List, [], ◌∷◌, ◌++◌, length, map, take, drop, filter, refl, sym, ap, subst, arith}
+use Rattle.std.specs.Prelude.{All, bytes_eq, not, ◌&&◌}
 use Rattle.std.specs.Option.{option_map}
 use Rattle.std.specs.List.{Contains, sum_by, cons_option, list_any}
 use Rattle.std.specs.Ordering.{is_lt}
-use Rattle.std.proofs.lemmas.Bool.{cases_Bool}
-use Rattle.std.proofs.lemmas.Option.{none-some, same_Some}
 use Rattle.std.proofs.lemmas.List.{take_at, length-map}
 use Rattle.std.proofs.lemmas.List.Elements.{All-nil, All-cons, All-head, All-tail, All-filter, All-take, All-drop, All-map, All-weaker, All-contains, All-contains_itself}
 use Rattle.std.proofs.lemmas.List.Sorted.{All-permutation}
 use Rattle.std.proofs.lemmas.List.Sums.{sum_by-cons, sum_by-le}
 use Rattle.definitions.specs.Step.{Used}
 use Rattle.definitions.specs.Journal.{HistoryRecord}
-use Rattle.definitions.specs.Search.{most_shown_bytes, hit_bytes, FitsPage, IsPage}
-use Rattle.payload_rules.specs.Payloads.{Payload, HistoryCreate, HistoryDelete, KvSet, KvDelete, AliasSet, AliasDelete}
-use Rattle.record_rules.specs.Limits.{most_page_weight, most_places, most_tag_bytes}
+use Rattle.definitions.specs.Limits.{most_shown_bytes, most_page_weight, most_places, most_tag_bytes, most_listed}
+use Rattle.definitions.specs.Search.{hit_bytes, FitsPage, IsPage}
+use Rattle.payload_rules.specs.Payloads.{Payload, KvSet, KvDelete, AliasSet, AliasDelete}
 use Rattle.record_rules.specs.Records.{SealedRecord, Caller, Entry, Event, Started, Local, Taken, record_weight}
-use Rattle.record_rules.specs.Journal.{ChainPlace, ChainCount, events_of, own_of, records_of, event_record, in_place, is_owned_by, put_in_order, place_cmp, places_of, counts_of, status, RecordFits, EventFits, Sound}
-use Rattle.view_rules.specs.Changes.{Change, Opening, change_of, changes_of, viewed}
-use Rattle.view_rules.specs.Views.{Creates, InHistory, ShowsHistory, Says, SaysLast, of_key, of_name, ShowsKv, ShowsAlias}
+use Rattle.record_rules.specs.Journal.{ChainPlace, ChainCount, events_of, own_of, records_of, in_place, is_owned_by, put_in_order, place_cmp, places_of, status, RecordFits, EventFits, Sound}
+use Rattle.view_rules.specs.Changes.{Change, change_of, changes_of, viewed}
+use Rattle.view_rules.specs.Views.{ShowsHistory, of_key, of_name, ShowsKv, ShowsAlias}
 use Rattle.view_rules.proofs.Settings.{of_key_set, of_name_set}
-use Rattle.view_rules.specs.Answers.{ScopedQuery, firsts, is_found, IsScopedAnswer, SearchAnswer, Named, named_bytes, IsListOf, IsKey, KvListAnswer, AliasListAnswer}
-use Rattle.step_rules.specs.Calls.{Call, search_call, kv_get_call, kv_list_call, alias_list_call, alias_delete_call, CallFits, most_listed, most_call_bytes}
-use Rattle.step_rules.specs.Answers.{Answer, Refusal, unknown_name, refused, hits, value_is, keys, aliases, places}
+use Rattle.view_rules.specs.Answers.{ScopedQuery, firsts, is_found, SearchAnswer, Named, named_bytes, IsListOf, IsKey}
+use Rattle.step_rules.specs.Calls.{Call, CallFits}
+use Rattle.step_rules.specs.Answers.{Answer, Refusal, refused, hits, value_is, keys, aliases, places}
 use Rattle.step_rules.specs.Store.{KeyedStore, payload_text_bytes, shown_changes}
 use Rattle.step_rules.specs.Step.{Draft, start_draft, record_draft, draft_answer, Unknown, end_unknown, delete_unknown, key_unknown, alias_unknown, Shows, shows_hits, shows_value, shows_no_value, shows_keys, shows_aliases, shows_places, Step, long_step, unknown_step, full_step, taken_step, append_step, read_step}
 use Rattle.session_rules.specs.Sessions.{Asked, a_call, SessionAnswer, to_call, Told, told_step, told_disk_fault, told_random_fault, told_no_memory, told_no_memory_at_once, told_bad, told_no_memory_for_bad, told_page, told_page_refused, told_page_disk_fault, told_page_no_memory, told_read, told_unrouted, told_no_memory_for_unrouted}
@@ -109,7 +107,7 @@ module _ (changes : List Change) (light : All IsLight changes) where
 
 -- what holds of all holds of a page of them
 page_of : {X : Type 0} (P : X → Type 0) (bytes_of : X → ℕ) (limit : ℕ) (all page : List X) → IsPage bytes_of limit all page → All P all → All P page
-page_of P bytes_of limit all page cut holds = subst (All P) (take_at page cut.rest (length page) refl) (All-take P (length page) (page ++ cut.rest) (subst (All P) cut.front holds))
+page_of P bytes_of limit all page cut holds = subst (All P) (take_at page cut.rest (length page) refl) (All-take P (length page) (page ++ cut.rest) (subst (All P) cut.begins holds))
 
 -- a page of items of which none is too heavy is light
 page_light : {X : Type 0} (bytes_of : X → ℕ) (limit : ℕ) (page : List X) → FitsPage bytes_of limit page → All (λ x. bytes_of x ≤ most_page_weight) page → sum_by bytes_of page ≤ most_shown_bytes

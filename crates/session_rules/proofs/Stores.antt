@@ -1,25 +1,25 @@
 -- Runs of a store's turns: what they leave is told, and they are sessions.
-use Rattle.std.proofs.Common.{◌≡◌, ◌≢◌, ℕ, ◌+◌, ◌≤◌, ◌^◌, ◌<◌, true, false, ◌⊎◌, inl, inr, Ok, Err, Result, List, [], ◌∷◌, ◌++◌, length, map, refl, sym, ◌∙◌, ap, subst, arith, length-append}
+use Rattle.std.proofs.Common.{◌≡◌, ◌≢◌, ℕ, ◌+◌, true, false, inl, inr, Ok, Err, Result, List, [], ◌∷◌, ◌++◌, length, map, refl, sym, ◌∙◌, ap, subst, arith, length-append}
 use Rattle.std.proofs.lemmas.Bool.{cases_Bool, true≢false}
 use Rattle.std.proofs.lemmas.List.{append-nil, length-map}
-use Rattle.definitions.specs.Counts.{Rose, RoseBy}
-use Rattle.definitions.specs.Step.{Used, used_nothing, then_used}
+use Rattle.definitions.specs.Counts.{RoseBy}
+use Rattle.definitions.specs.Step.{Used}
 use Rattle.definitions.proofs.Counts.{RoseBy-nothing, RoseBy-then}
 use Rattle.record_rules.specs.Records.{SealedRecord, Caller, Entry}
 use Rattle.record_rules.specs.Growth.{PageRefusal, grow}
 use Rattle.step_rules.specs.Calls.{Call, is_read}
-use Rattle.step_rules.specs.Answers.{Answer, refused, disk_fault, Reply}
+use Rattle.step_rules.specs.Answers.{Answer, Reply}
 use Rattle.step_rules.specs.Store.{KeyedStore}
 use Rattle.step_rules.specs.Step.{Step}
 use Rattle.step_rules.specs.Turn.{settled_entry, settled, Turn, read_turn, short_unread_turn, unsettled_turn, step_turn, undrawn_turn, uncommitted_turn, short_turn, short_settled_turn}
-use Rattle.step_rules.specs.PageTurns.{PageAnswer, PageTurn, page_faulted, unsettled_page, taken_page, refused_page, uncommitted_page, short_page, short_settled_page}
+use Rattle.step_rules.specs.PageTurns.{PageAnswer, PageTurn, unsettled_page, taken_page, refused_page, uncommitted_page, short_page, short_settled_page}
 use Rattle.step_rules.proofs.Steps.{Step-adds}
 use Rattle.step_rules.proofs.Outcomes.{Step-one}
 use Rattle.step_rules.proofs.ReadTurns.{ReadTurn-stands}
 use Rattle.session_rules.specs.Sessions.{Asked, a_call, a_page, SessionAnswer, to_call, to_page, SessionReply, SessionRequest, caller_of, Session}
 use Rattle.session_rules.specs.Turns.{TurnAnswers, answers_call, answers_unread, answers_bad, answers_page, answers_read, answers_unrouted}
 use Rattle.session_rules.specs.Passes.{tells_disk_fault, disk_faults}
-use Rattle.session_rules.specs.Stores.{StoreState, StoreTurn, RunTurn, IsRunTurn, IsRun, last_left, run_requests, run_replies, run_used, AreAlike}
+use Rattle.session_rules.specs.Stores.{StoreState, RunTurn, IsRunTurn, IsRun, last_left, run_requests, run_replies, run_used, AreAlike}
 use Rattle.session_rules.proofs.Passes.{count, disk_faults-item, turn_counts}
 use Rattle.session_rules.proofs.Sessions.{session_begins, sessions_follow}
 use Rattle.session_rules.proofs.Growing.{answers_are_told, turn_is_session}

@@ -1,25 +1,22 @@
 -- A reply to a call that may be asked, at a sound journal, is short.
-use Rattle.std.proofs.Common.{◌≡◌, ℕ, zero, suc, ◌+◌, ◌-◌, ◌<◌, ◌≤◌, ◌*◌, ◌^◌, pos, Bool, true, false, cond, ◌⊎◌, inl, inr, Some, None, List, [], ◌∷◌, ◌++◌, length, map, take, drop, filter, refl, sym, ◌∙◌, ap, subst, arith, length-append}
-use Rattle.std.specs.Prelude.{All, get_or}
-use Rattle.std.specs.List.{Contains, flat_map, sum_by}
-use Rattle.std.proofs.lemmas.List.{append-nil, take_at, length-map, length-take, length-drop}
-use Rattle.std.proofs.lemmas.List.Elements.{All-nil, All-cons, All-head, All-tail, All-filter, All-take, All-drop, All-map, All-weaker, All-contains}
-use Rattle.std.proofs.lemmas.List.Sorted.{All-permutation}
-use Rattle.std.proofs.lemmas.List.Sums.{sum_by-cons, sum_by-le}
+use Rattle.std.proofs.Common.{◌≡◌, ℕ, ◌+◌, ◌-◌, ◌<◌, ◌≤◌, ◌*◌, ◌^◌, pos, Some, None, List, ◌∷◌, ◌++◌, length, take, drop, arith}
+use Rattle.std.specs.Prelude.{All}
+use Rattle.std.specs.List.{flat_map, sum_by}
+use Rattle.std.proofs.lemmas.List.{length-take, length-drop}
+use Rattle.std.proofs.lemmas.List.Sums.{sum_by-le}
 use Rattle.definitions.specs.Spelling.{written_text, written_array}
-use Rattle.definitions.specs.Ids.{id_text}
+use Rattle.definitions.specs.Ids.{id_text, hyphenated}
 use Rattle.definitions.specs.Journal.{HistoryRecord}
-use Rattle.definitions.specs.Search.{most_shown_bytes, hit_bytes, FitsPage}
+use Rattle.definitions.specs.Limits.{most_places, most_tag_bytes}
+use Rattle.definitions.specs.Search.{hit_bytes}
 use Rattle.definitions.specs.Replies.{written_number, hit_item, ok_bytes}
 use Rattle.definitions.proofs.Ids.{id_text-length}
 use Rattle.definitions.proofs.Lengths.{integer-short, array-short, text-short, id-short, both-short, hit_item-short, ok_bytes-short, refusal_bytes-short, refusal_of_bytes-short, items-short}
 use Rattle.payload_rules.specs.Items.{written_nil}
-use Rattle.record_rules.specs.Limits.{most_page_weight, most_places, most_tag_bytes}
 use Rattle.record_rules.specs.Journal.{ChainCount}
 use Rattle.view_rules.specs.Answers.{Named, named_bytes}
-use Rattle.step_rules.specs.Calls.{most_call_bytes, most_listed}
 use Rattle.step_rules.specs.Answers.{Refusal, too_long, unknown_id, unknown_name, full, random_fault, id_taken, disk_fault, no_memory, bad_request, Answer, began, stored, hits, value_is, keys, aliases, places, refused}
-use Rattle.session_rules.specs.Bytes.{written_list, hyphenated, value_item, alias_item, place_item, refused_bytes, answer_bytes}
+use Rattle.session_rules.specs.Bytes.{written_list, alias_item, place_item, refused_bytes, answer_bytes}
 use Rattle.session_rules.specs.Within.{most_reply_bytes, ShowsWithin}
 
 -- ---- from what is shown to bytes

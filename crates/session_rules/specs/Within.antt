@@ -1,11 +1,10 @@
 -- How much one reply shows at most.
-use Rattle.std.specs.Prelude.{ℕ, ◌≤◌, ◌-◌, ◌^◌, List, length, All, Option, Some, None, ⊤}
+use Rattle.std.specs.Prelude.{ℕ, ◌≤◌, ◌-◌, ◌^◌, List, length, All, Some, None, ⊤}
 use Rattle.std.specs.List.{sum_by}
-use Rattle.definitions.specs.Search.{most_shown_bytes, hit_bytes}
-use Rattle.record_rules.specs.Limits.{most_page_weight, most_places, most_tag_bytes}
+use Rattle.definitions.specs.Limits.{most_shown_bytes, most_page_weight, most_places, most_tag_bytes, most_call_bytes, most_listed}
+use Rattle.definitions.specs.Search.{hit_bytes}
 use Rattle.record_rules.specs.Journal.{ChainCount}
 use Rattle.view_rules.specs.Answers.{named_bytes}
-use Rattle.step_rules.specs.Calls.{most_call_bytes, most_listed}
 use Rattle.step_rules.specs.Answers.{Answer, hits, value_is, keys, aliases, places, refused, unknown_name}
 
 -- a reply's frame names its length in four bytes, of which half are used

@@ -17,7 +17,7 @@ use Rattle.definitions.specs.Step.{Used, used_nothing, read_clock, read_and_drew
 use Rattle.definitions.specs.Examples.{first_time, ten_bytes, first_id, ls, ls_ended}
 use Rattle.record_rules.specs.Examples.{ls_entry}
 use Rattle.payload_rules.specs.Payloads.{Payload, HistoryCreate, HistoryDelete, KvSet, AliasSet, AliasDelete, version_0, version_text, tag_of, history_tag, payload_version}
-use Rattle.record_rules.specs.Limits.{most_value_bytes, most_name_bytes, most_page_weight, most_held_weight}
+use Rattle.definitions.specs.Limits.{most_value_bytes, most_name_bytes, most_page_weight, most_held_weight, most_call_bytes}
 use Rattle.record_rules.specs.Records.{SealedRecord, Caller, Entry, Local, record_weight, event_weight}
 use Rattle.record_rules.specs.Growth.{PageRefusal, PageGap}
 use Rattle.record_rules.specs.Journal.{ChainCount, chain, own_events, entries_passed, weight_passed, places_passed, first_limit_passed, status}
@@ -28,7 +28,7 @@ use Rattle.view_rules.specs.Answers.{of_all, ScopedQuery, is_found, IsScopedAnsw
 use Rattle.view_rules.proofs.Records.{Has-from_Contains, Contains-from_Has, holds, gives_once, computed_list}
 use Rattle.view_rules.proofs.Settings.{of_key_set, of_name_set}
 use Rattle.view_rules.proofs.Alone.{none_of_none, says_alone, said_alone, command_alone, created_alone}
-use Rattle.step_rules.specs.Calls.{Call, end_call, kv_list_call, alias_list_call, is_read, name_field, value_field, first_long, most_call_bytes}
+use Rattle.step_rules.specs.Calls.{Call, end_call, kv_list_call, alias_list_call, is_read, name_field, value_field, first_long}
 use Rattle.step_rules.specs.Answers.{Refusal, too_long, unknown_id, id_taken, disk_fault, no_memory, Answer, began, stored, hits, value_is, keys, aliases, places, refused, Reply}
 use Rattle.step_rules.specs.Store.{Head, KeyedStore, sealed_record, payload_text_bytes, SealsWell}
 use Rattle.step_rules.specs.Step.{Draft, start_draft, record_draft, Drafts, start_drafts, end_drafts, delete_drafts, kv_set_drafts, kv_delete_drafts, alias_set_drafts, alias_delete_drafts, Unknown, end_unknown, delete_unknown, key_unknown, alias_unknown, draft_passes, Ready, draws, Step, long_step, unknown_step, full_step, taken_step, append_step, read_step, Shows, shows_hits, shows_value, shows_no_value, shows_keys, shows_aliases, shows_places}
@@ -416,7 +416,7 @@ drafts = record {
 
 -- a page of all that is left
 pub whole_page : (limit : ℕ) (page : List HistoryRecord) → FitsPage hit_bytes limit page → IsPage hit_bytes limit page page
-whole_page limit page fits = record { rest = []; front = sym (append-nil page); fits = fits; most = λ next others e more. absurd cc }
+whole_page limit page fits = record { rest = []; begins = sym (append-nil page); fits = fits; most = λ next others e more. absurd cc }
 
 abbrev no_hits : List HistoryRecord
 no_hits = []

@@ -1,5 +1,5 @@
 -- What a step appends may follow the journal.
-use Rattle.std.proofs.Common.{◌≡◌, ℕ, ◌+◌, ◌≤◌, true, false, cond, ◌⊎◌, inl, inr, List, [], ◌∷◌, length, Option, Some, None, refl, sym, ◌∙◌, ap, subst, arith}
+use Rattle.std.proofs.Common.{◌≡◌, ℕ, ◌≤◌, true, false, cond, ◌⊎◌, inl, inr, List, [], ◌∷◌, length, Option, Some, None, refl, sym, ◌∙◌, ap, subst, arith}
 use Rattle.std.specs.Prelude.{◌-◌, nat_lt, ◌==◌, IsTrue, drop}
 use Rattle.std.specs.List.{list_any}
 use Rattle.std.proofs.lemmas.List.{length-drop}
@@ -8,13 +8,13 @@ use Rattle.std.proofs.lemmas.Bool.{true≢false, ltb-false, eqb-false, eqb-true}
 use Rattle.payload_rules.specs.Payloads.{Payload, HistoryCreate, HistoryDelete, KvSet, KvDelete, AliasSet, AliasDelete, Version, version_0, version_1, version_text, tag_of, payload_version}
 use Rattle.definitions.specs.Journal.{StartedRecord}
 use Rattle.definitions.specs.Search.{author_length}
-use Rattle.record_rules.specs.Limits.{most_name_bytes, most_tag_bytes, most_page_weight}
+use Rattle.definitions.specs.Limits.{most_name_bytes, most_tag_bytes, most_page_weight, most_call_bytes}
 use Rattle.record_rules.specs.Records.{SealedRecord, Entry, Event, Started, Local, Taken, record_weight, event_weight}
 use Rattle.record_rules.specs.Journal.{running, still_running, closes_id, is_running, events_of, chain, first_limit_passed, StartedFits, EventFits, Sound, MayFollow}
 use Rattle.record_rules.proofs.Options.{cond_none}
 use Rattle.record_rules.proofs.Members.{Has, find_has}
 use Rattle.record_rules.proofs.Soundness.{local_not_started}
-use Rattle.step_rules.specs.Calls.{Call, start_call, LimitedText, LongText, name_field, value_field, author_field, first_long, long_text, call_bytes, most_call_bytes, CallFits}
+use Rattle.step_rules.specs.Calls.{Call, start_call, LimitedText, LongText, name_field, value_field, author_field, first_long, long_text, call_bytes, CallFits}
 use Rattle.step_rules.specs.Store.{Head, KeyedStore, sealed_record, payload_text_bytes, SealsWell}
 use Rattle.step_rules.specs.Step.{Draft, start_draft, record_draft, running_under, started_record, Drafts, start_drafts, end_drafts, delete_drafts, kv_set_drafts, kv_delete_drafts, alias_set_drafts, alias_delete_drafts, draft_passes, draws, drawn_id, next_head, draft_event, starts_id, is_taken}
 use Rattle.step_rules.proofs.Finding.{some_passes, none_passes, of_each}

@@ -1,22 +1,21 @@
 -- What holds of the store under a key.
-use Rattle.std.proofs.Common.{◌≡◌, ℕ, ◌+◌, ◌≤◌, ◌⊎◌, inl, inr, List, [], ◌∷◌, length, Option, Some, None, refl, sym, ap, subst, ◌∙◌, arith}
+use Rattle.std.proofs.Common.{◌≡◌, ℕ, ◌≤◌, inl, inr, List, [], ◌∷◌, length, Option, Some, sym, ap, subst, ◌∙◌, arith}
 use Rattle.std.specs.Prelude.{◌↔◌}
 use Rattle.std.proofs.lemmas.Option.{same_Some}
 use Rattle.definitions.specs.Spelling.{IsBytes}
 use Rattle.definitions.specs.Reading.{◌>>=◌}
 use Rattle.definitions.proofs.Bytes.{bind_some}
-use Rattle.payload_rules.specs.Payloads.{Payload, tag_of, version_text, payload_version, PayloadFits, PayloadOf, written_payload, TextsFit}
+use Rattle.payload_rules.specs.Payloads.{Payload, tag_of, version_text, payload_version, PayloadOf, written_payload}
 use Rattle.payload_rules.specs.Reading.{payload_at}
 use Rattle.payload_rules.proofs.Payloads.{payloads_one}
 use Rattle.payload_rules.proofs.Reading.{payload_found, payload_again}
 use Rattle.payload_rules.proofs.Written.{written_spelled}
-use Rattle.record_rules.specs.Limits.{fixed_weight, most_page_weight}
+use Rattle.definitions.specs.Limits.{most_page_weight, most_call_bytes}
 use Rattle.record_rules.specs.Records.{SealedRecord, record_weight}
-use Rattle.view_rules.specs.Changes.{Change, change_of, Opens, OpensOnce, ChangesOf, OpensByTag, gives, changes_of}
+use Rattle.view_rules.specs.Changes.{Change, Opens, OpensOnce, ChangesOf, OpensByTag, gives, changes_of}
 use Rattle.view_rules.proofs.Records.{computed_list}
-use Rattle.step_rules.specs.Calls.{most_call_bytes}
-use Rattle.step_rules.specs.Store.{Head, sealed_record, KeyedStore, payload_text_bytes, SealsWell}
-use Rattle.step_rules.specs.Sealing.{Sealing, OpensTo, unsealed_weight, keyed_store, OpensItsSeals, TextsWithinRecords, KeyedStoreHolds}
+use Rattle.step_rules.specs.Store.{Head, sealed_record, KeyedStore, payload_text_bytes}
+use Rattle.step_rules.specs.Sealing.{Sealing, OpensTo, keyed_store, OpensItsSeals, TextsWithinRecords, KeyedStoreHolds}
 use Rattle.step_rules.proofs.Following.{tag_fits, version_length}
 use Rattle.step_rules.proofs.Texts.{payload_within, written_short}
 

@@ -6,7 +6,7 @@ use Rattle.definitions.specs.Search.{author_length}
 use Rattle.definitions.specs.Spelling.{IntegerForm, positive_fixint, negative_fixint, uint_8, uint_16, uint_32, uint_64, int_8, int_16, int_32, int_64, integer_bytes, shortest_unsigned, shortest_negative, TextForm, fixstr, str_8, str_16, str_32, text_head, shortest_text, written_integer, written_text, ArrayForm, fixarray, array_16, array_32, array_head, shortest_array, written_array}
 use Rattle.definitions.proofs.Ids.{id_text-length}
 use Rattle.payload_rules.specs.Items.{BinForm, bin_8, bin_16, bin_32, bin_head, shortest_bin, written_bin, Item, an_integer, a_text, an_array, a_bin, a_nil, SpellsItem, SpellsItems}
-use Rattle.payload_rules.specs.Payloads.{Payload, HistoryCreate, HistoryDelete, KvSet, KvDelete, AliasSet, AliasDelete, Version, version_0, version_1, time_item, author_item, history_items, SpellsPayload, written_u8, written_u16, written_u64, written_time, written_told, written_with, written_history, written_payload}
+use Rattle.payload_rules.specs.Payloads.{Payload, HistoryCreate, HistoryDelete, KvSet, KvDelete, AliasSet, AliasDelete, Version, version_0, version_1, author_item, history_items, SpellsPayload, written_u8, written_u16, written_u64, written_time, written_told, written_with, written_history, written_payload}
 use Rattle.step_rules.specs.Store.{payload_text_bytes}
 
 -- ---- what spells a payload has its texts

@@ -3,7 +3,7 @@
 use Rattle.std.specs.Prelude.{ℕ, ◌+◌, ◌<◌, ◌≤◌, ◌^◌, ℤ, FitsSigned, List, [], ◌∷◌, length, Bool, true, false, Option, Some, None, if◌then◌else◌, nat_lt}
 use Rattle.std.specs.Int.{w64}
 use Rattle.definitions.specs.Search.{author_length}
-use Rattle.record_rules.specs.Limits.{most_value_bytes, most_name_bytes}
+use Rattle.definitions.specs.Limits.{most_value_bytes, most_name_bytes, most_call_bytes, most_listed}
 use Rattle.view_rules.specs.Answers.{Scope, of_all, of_hostname, of_session, of_cwd, ScopedQuery}
 
 pub data Call : Type 0 where
@@ -87,10 +87,6 @@ long_text call = first_long (stored_texts call)
 
 -- ---- calls that a payload can hold
 
--- bytes of all texts of a call together: what a payload of 1,048,576 bytes has room for
-abbrev pub most_call_bytes : ℕ
-most_call_bytes = 1048569
-
 abbrev pub scope_bytes : Scope → ℕ
 scope_bytes of_all = 0
 scope_bytes (of_hostname text) = length text
@@ -110,10 +106,6 @@ call_bytes (alias_set_call name value) = length name + length value
 call_bytes (alias_delete_call name) = length name
 call_bytes (alias_list_call after limit) = length after
 call_bytes status_call = 0
-
--- hits, keys or aliases that a call may ask for at most
-abbrev pub most_listed : ℕ
-most_listed = 1000
 
 -- at least 1 is asked for
 abbrev pub IsListLimit : ℕ → Type 0

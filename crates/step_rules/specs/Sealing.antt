@@ -5,7 +5,7 @@ use Rattle.definitions.specs.Spelling.{IsBytes}
 use Rattle.definitions.specs.Reading.{◌>>=◌}
 use Rattle.payload_rules.specs.Payloads.{Payload, tag_of, version_text, payload_version, PayloadFits, PayloadOf, written_payload, TextsFit}
 use Rattle.payload_rules.specs.Reading.{payload_at}
-use Rattle.record_rules.specs.Limits.{fixed_weight}
+use Rattle.definitions.specs.Limits.{fixed_weight}
 use Rattle.record_rules.specs.Records.{SealedRecord, record_weight}
 use Rattle.view_rules.specs.Changes.{OpensOnce, ChangesOf, OpensByTag, changes_of}
 use Rattle.step_rules.specs.Store.{Head, Seal, sealed_record, KeyedStore, payload_text_bytes, SealsWell}

@@ -3,11 +3,10 @@ use Rattle.std.specs.Prelude.{◌≡◌, ℕ, ◌+◌, ◌≤◌, List, [], leng
 use Rattle.definitions.specs.Journal.{HistoryRecord}
 use Rattle.definitions.specs.Search.{hit_bytes}
 use Rattle.payload_rules.specs.Payloads.{Payload, HistoryCreate, HistoryDelete, KvSet, KvDelete, AliasSet, AliasDelete, tag_of, version_text, payload_version}
-use Rattle.record_rules.specs.Limits.{most_page_weight}
+use Rattle.definitions.specs.Limits.{most_page_weight, most_call_bytes}
 use Rattle.record_rules.specs.Records.{SealedRecord, Entry, record_weight}
 use Rattle.view_rules.specs.Changes.{Change, viewed, Opening, changes_of}
 use Rattle.view_rules.specs.Views.{ShowsHistory, ShowsKv, ShowsAlias}
-use Rattle.step_rules.specs.Calls.{most_call_bytes}
 
 -- what a record says in the open, to which its sealed text is bound
 pub record Head : Type 0 where

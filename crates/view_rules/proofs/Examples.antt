@@ -120,7 +120,7 @@ cond_none true = refl
 cond_none false = refl
 
 page_of_none : (limit : ℕ) → IsPage hit_bytes limit no_hits no_hits
-page_of_none limit = record { rest = no_hits; front = refl; fits = (omega arith, inl (omega arith)); most = λ next others e fits. absurd cc }
+page_of_none limit = record { rest = no_hits; begins = refl; fits = (omega arith, inl (omega arith)); most = λ next others e fits. absurd cc }
 
 answer_of_none : (asked : ScopedQuery) → IsScopedAnswer asked no_hits no_hits
 answer_of_none asked = record {
@@ -225,7 +225,7 @@ searches = record {
   newest_first = record { in_order = newest; found = turned; sorted = newest_sorted; cut = whole_page hit_bytes 10 newest (omega arith, inr (omega arith)) };
   unique = record { in_order = newest; found = turned; sorted = newest_sorted; cut = whole_page hit_bytes 10 (last_a ∷ only_b ∷ []) (omega arith, inr (omega arith)) };
   matching = record { in_order = only_b ∷ []; found = IsPermutation-refl (only_b ∷ []); sorted = λ k d low high. absurd (omega arith); cut = whole_page hit_bytes 10 (only_b ∷ []) (omega arith, inl (omega arith)) };
-  limit_1 = record { in_order = newest; found = turned; sorted = newest_sorted; cut = record { rest = only_b ∷ []; front = refl; fits = (omega arith, inl (omega arith)); most = λ next others e more. let many = more.0 in omega arith } };
+  limit_1 = record { in_order = newest; found = turned; sorted = newest_sorted; cut = record { rest = only_b ∷ []; begins = refl; fits = (omega arith, inl (omega arith)); most = λ next others e more. let many = more.0 in omega arith } };
   offset_1 = record { in_order = newest; found = turned; sorted = newest_sorted; cut = whole_page hit_bytes 10 (only_b ∷ []) (omega arith, inl (omega arith)) };
   offset_5 = record { in_order = newest; found = turned; sorted = newest_sorted; cut = page_of_none 10 };
   capitals = refl;

@@ -89,7 +89,7 @@ lists = record {
   from_start = whole_list 10 is_one_of_three [] all_three three_same three_rise (omega arith, inr (omega arith));
   above_a = whole_list 10 is_one_of_three (codes "a") (b ∷ []) (b_same (codes "a") after_a refl) (tt, tt) (omega arith, inl (omega arith));
   above_ab = whole_list 10 is_one_of_three (codes "ab") (b ∷ []) (b_same (codes "ab") after_ab refl) (tt, tt) (omega arith, inl (omega arith));
-  limit_1 = record { all = all_three; same = three_same; rises = three_rise; cut = record { rest = a ∷ b ∷ []; front = refl; fits = (omega arith, inl (omega arith)); most = λ next others e more. let many = more.0 in omega arith } };
+  limit_1 = record { all = all_three; same = three_same; rises = three_rise; cut = record { rest = a ∷ b ∷ []; begins = refl; fits = (omega arith, inl (omega arith)); most = λ next others e more. let many = more.0 in omega arith } };
   at_most = λ value len. (omega arith, inr (omega arith));
   above = λ value len fits. too_heavy value len fits;
   single = λ value len. (omega arith, inl (omega arith));

@@ -148,11 +148,11 @@ views = record {
   other_alias = λ same. let h : ◌≡◌ {A = ℕ} 7 3 = alone alias_elsewhere of_host_3 ((same.aliases (codes "g") of_host_3 (Some (codes "three"))).0 (last_alone (of_name (codes "g")) of_host_3 (Some (codes "three")) refl (λ e. cc))).here.among in omega arith;
   key_listed = whole_list 10 (IsKeyOf (codes "n")) [] (named (codes "k") ∷ []) k_same (tt, tt) (omega arith, inl (omega arith));
   no_key_above = whole_list 10 (IsKeyOf (codes "n")) (codes "k") [] (no_names (IsKeyOf (codes "n")) (codes "k") none_above_k) tt (omega arith, inl (omega arith));
-  no_key_fits = record { all = named (codes "k") ∷ []; same = k_same; rises = (tt, tt); cut = record { rest = named (codes "k") ∷ []; front = refl; fits = (omega arith, inl (omega arith)); most = λ next others e more. let many = more.0 in omega arith } };
+  no_key_fits = record { all = named (codes "k") ∷ []; same = k_same; rises = (tt, tt); cut = record { rest = named (codes "k") ∷ []; begins = refl; fits = (omega arith, inl (omega arith)); most = λ next others e more. let many = more.0 in omega arith } };
   no_other_key = whole_list 10 (IsKeyOf (codes "x")) [] [] (no_names (IsKeyOf (codes "x")) [] none_in_x) tt (omega arith, inl (omega arith));
   alias_listed = whole_list 10 (IsAlias of_host_3 ended_earlier) [] (three ∷ []) g_same (tt, tt) (omega arith, inl (omega arith));
   no_alias_above = whole_list 10 (IsAlias of_host_3 ended_earlier) (codes "g") [] (no_names (IsAlias of_host_3 ended_earlier) (codes "g") none_above_g) tt (omega arith, inl (omega arith));
-  no_alias_fits = record { all = three ∷ []; same = g_same; rises = (tt, tt); cut = record { rest = three ∷ []; front = refl; fits = (omega arith, inl (omega arith)); most = λ next others e more. let many = more.0 in omega arith } };
+  no_alias_fits = record { all = three ∷ []; same = g_same; rises = (tt, tt); cut = record { rest = three ∷ []; begins = refl; fits = (omega arith, inl (omega arith)); most = λ next others e more. let many = more.0 in omega arith } };
   command_found = record {
     entries = ls ∷ [];
     listed = record { own = HaveDistinctIds-more HistoryRecord (λ h. h.id) [] ls (HaveDistinctIds-none HistoryRecord (λ h. h.id)) refl; same = λ h. (λ c. ls_from h (Has-from_Contains (ls ∷ []) h c), λ shown. Contains-from_Has (ls ∷ []) h (inl (ls_into h shown))) };

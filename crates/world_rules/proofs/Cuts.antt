@@ -1,9 +1,9 @@
 -- Pieces cut from a chain, as the chain grows.
 use Rattle.std.proofs.Common.{◌≡◌, ℕ, suc, ◌+◌, Bool, true, false, cond, inl, inr, List, [], ◌∷◌, ◌++◌, length, filter, take, drop, min, Some, refl, sym, ◌∙◌, ap, arith, append_assoc}
 use Rattle.std.specs.Prelude.{slice_get}
-use Rattle.std.proofs.lemmas.List.{append-nil, take-append-drop}
+use Rattle.std.proofs.lemmas.List.{take-append-drop}
 use Rattle.std.proofs.Math.Seq.{take-append_seam, drop-append_seam}
-use Rattle.record_rules.specs.Limits.{most_page_records}
+use Rattle.definitions.specs.Limits.{most_page_records}
 use Rattle.record_rules.specs.Records.{SealedRecord, Entry}
 use Rattle.record_rules.specs.Journal.{own_events, records_of, in_place, chain, IsNumbered}
 use Rattle.definitions.specs.Prefixes.{IsPrefix}
@@ -34,26 +34,26 @@ pub cut_is_slice : (records origin : List SealedRecord) → (cut : IsCut records
 cut_is_slice records origin cut =
     ap (λ o. take (length records) (drop (length cut.before) o)) (sym cut.is) ∙ ap (take (length records)) (drop-append_seam cut.before (records ++ cut.rest)) ∙ take-append_seam records cut.rest
 
--- a front of what is left of a front
-cut_in : (front origin records : List SealedRecord) (start : ℕ) → IsPrefix front origin → IsPrefix records (drop start front) → IsCut records origin
-cut_in front origin records start is_front from_start =
-    let behind = drop (length records) (drop start front) in
-    let beyond = drop (length front) origin in
+-- a prefix of what is left of a prefix
+cut_in : (prefix origin records : List SealedRecord) (start : ℕ) → IsPrefix prefix origin → IsPrefix records (drop start prefix) → IsCut records origin
+cut_in prefix origin records start is_prefix from_start =
+    let behind = drop (length records) (drop start prefix) in
+    let beyond = drop (length prefix) origin in
     record {
-      before = take start front;
+      before = take start prefix;
       rest = behind ++ beyond;
-      is = ap (λ zs. take start front ++ zs) (sym (append_assoc records behind beyond) ∙ ap (λ zs. zs ++ beyond) (prefix-rest records (drop start front) from_start)) ∙ sym (append_assoc (take start front) (drop start front) beyond) ∙ ap (λ zs. zs ++ beyond) (take-append-drop start front) ∙ prefix-rest front origin is_front;
+      is = ap (λ zs. take start prefix ++ zs) (sym (append_assoc records behind beyond) ∙ ap (λ zs. zs ++ beyond) (prefix-rest records (drop start prefix) from_start)) ∙ sym (append_assoc (take start prefix) (drop start prefix) beyond) ∙ ap (λ zs. zs ++ beyond) (take-append-drop start prefix) ∙ prefix-rest prefix origin is_prefix;
     }
 
--- a page of a chain that is a front of an origin is cut from the origin
+-- a page of a chain that is a prefix of an origin is cut from the origin
 pub page_is_cut : (journal : List Entry) (owner host : ℕ) (tag : List ℕ) (start count : ℕ) (origin : List SealedRecord) → IsPrefix (chain journal owner host tag) origin → IsCut (page journal owner host tag start count) origin
-page_is_cut journal owner host tag start count origin front =
+page_is_cut journal owner host tag start count origin prefix =
     let left = drop start (chain journal owner host tag) in
     let next = take (min count most_page_records) left in
     let given = page journal owner host tag start count in
-    let first : IsPrefix given next = (page_is_longest journal owner host tag start count).is_front in
+    let first : IsPrefix given next = (page_is_longest journal owner host tag start count).is_prefix in
     let within : IsPrefix next left = prefix-of next (drop (min count most_page_records) left) left (take-append-drop (min count most_page_records) left) in
-    cut_in (chain journal owner host tag) origin given start front (prefix-then given next left first within)
+    cut_in (chain journal owner host tag) origin given start prefix (prefix-then given next left first within)
 
 -- ---- numbered chains
 

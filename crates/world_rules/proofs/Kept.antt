@@ -1,4 +1,4 @@
--- What every event keeps: each journal is sound, each chain is a front of that chain at its own host's node, and each page that was
+-- What every event keeps: each journal is sound, each chain is a prefix of that chain at its own host's node, and each page that was
 -- ever sent is cut from such a chain.
 use Rattle.std.proofs.Common.{◌≡◌, ◌≢◌, ℕ, zero, suc, cond, ◌⊎◌, inl, inr, List, [], ◌∷◌, ◌++◌, length, take, drop, Some, Result, Ok, Err, refl, sym, ◌∙◌, ap, subst}
 use Rattle.std.specs.Prelude.{slice_get, bytes_eq}
@@ -13,12 +13,12 @@ use Rattle.record_rules.specs.Growth.{PageRefusal, PageForked, GoOn, grow, grown
 use Rattle.record_rules.specs.Answers.{page}
 use Rattle.record_rules.proofs.Growth.{growth_stays_sound}
 use Rattle.record_rules.proofs.Options.{slice_get_push}
-use Rattle.record_rules.proofs.Origins.{slice_never_forks, slice_keeps_front, slice_leaves_other_chains}
+use Rattle.record_rules.proofs.Origins.{slice_never_forks, slice_keeps_prefix, slice_leaves_other_chains}
 use Rattle.record_rules.proofs.Soundness.{empty_sound}
 use Rattle.record_rules.proofs.Status.{status_counts}
 use Rattle.view_rules.proofs.Sets.{chains_make_views}
 use Rattle.world_rules.specs.World.{host_at, HostsDiffer, IsNoHost, World, empty_world, with_journal, with_page, WorldEvent, Append, Send, Deliver, Crash, Cut, Appends, Sends, Delivers, Happens, Leads, Reach, AppendsOwn, MakesOwn}
-use Rattle.world_rules.specs.Laws.{NodesAreSound, ChainsAreFronts, NoStrangeChains, NoForks, StatusTellsChains, StatusTellsViews}
+use Rattle.world_rules.specs.Laws.{NodesAreSound, ChainsArePrefixes, NoStrangeChains, NoForks, StatusTellsChains, StatusTellsViews}
 use Rattle.world_rules.proofs.Cuts.{IsCut, cut_grows, cut_is_slice, page_is_cut, chain_goes_on}
 use Rattle.definitions.proofs.Prefixes.{prefix-itself, prefix-grows, prefixes-alike}
 use Rattle.world_rules.proofs.Batches.{chain_append, own_leaves_others}
@@ -33,14 +33,14 @@ pub record WasCut (hosts : List ℕ) (w : World) (records : List SealedRecord) :
 
 pub record Holds (hosts : List ℕ) (w : World) : Type 0 where
   pub sound : NodesAreSound hosts w
-  pub fronts : ChainsAreFronts hosts w
+  pub prefixes : ChainsArePrefixes hosts w
   pub strangers : NoStrangeChains hosts w
   pub cuts : (number : ℕ) (records : List SealedRecord) → slice_get w.sent number ≡ Some records → WasCut hosts w records
 
 empty_holds : (hosts : List ℕ) → Holds hosts empty_world
 empty_holds hosts = record {
   sound = λ node host at. empty_sound host;
-  fronts = λ node origin host tag at. refl;
+  prefixes = λ node origin host tag at. refl;
   strangers = λ node host tag no. refl;
   cuts = λ number records at. absurd (none-some records at);
 }
@@ -60,23 +60,23 @@ module _ (hosts : List ℕ) (w : World) (holds : Holds hosts w) (n : ℕ) (batch
   goes_on_by o host tag =
       at_each w n (w.journal n ++ batch) (λ m journal. (more : List SealedRecord) × (chain journal 0 host tag ≡ chain (w.journal m) 0 host tag ++ more)) (chain batch 0 host tag, chain_append (w.journal n) batch 0 host tag) (λ m differ. ([], sym (append-nil (chain (w.journal m) 0 host tag)))) o
 
-  still_front : (xs : List SealedRecord) (o host : ℕ) (tag : List ℕ) → IsPrefix xs (chain (w.journal o) 0 host tag) → IsPrefix xs (chain ((with_journal w n (w.journal n ++ batch)).journal o) 0 host tag)
-  still_front xs o host tag front =
+  still_prefix : (xs : List SealedRecord) (o host : ℕ) (tag : List ℕ) → IsPrefix xs (chain (w.journal o) 0 host tag) → IsPrefix xs (chain ((with_journal w n (w.journal n ++ batch)).journal o) 0 host tag)
+  still_prefix xs o host tag prefix =
       let more = goes_on_by o host tag in
-      subst (IsPrefix xs) (sym more.1) (prefix-grows xs (chain (w.journal o) 0 host tag) more.0 front)
+      subst (IsPrefix xs) (sym more.1) (prefix-grows xs (chain (w.journal o) 0 host tag) more.0 prefix)
 
   pub batch_holds : ((host : ℕ) → host_at hosts n ≡ Some host → Sound (w.journal n ++ batch) host) → ((o host : ℕ) (tag : List ℕ) → host_at hosts o ≡ Some host → o ≢ n → IsPrefix (chain (w.journal n ++ batch) 0 host tag) (chain (w.journal o) 0 host tag)) → ((host : ℕ) (tag : List ℕ) → IsNoHost hosts host → chain (w.journal n ++ batch) 0 host tag ≡ []) → Holds hosts (with_journal w n (w.journal n ++ batch))
-  batch_holds sound fronts strangers =
+  batch_holds sound prefixes strangers =
       let new = with_journal w n (w.journal n ++ batch) in
       record {
         sound = at_each w n (w.journal n ++ batch) (λ m journal. (host : ℕ) → host_at hosts m ≡ Some host → Sound journal host) sound (λ m differ. holds.sound m);
-        fronts = λ node o host tag at.
+        prefixes = λ node o host tag at.
             at_each w n (w.journal n ++ batch) (λ m journal. IsPrefix (chain journal 0 host tag) (chain (new.journal o) 0 host tag))
             (at_each w n (w.journal n ++ batch) (λ m journal. host_at hosts m ≡ Some host → IsPrefix (chain (w.journal n ++ batch) 0 host tag) (chain journal 0 host tag))
             (λ here. prefix-itself (chain (w.journal n ++ batch) 0 host tag))
-            (λ m differ here. fronts m host tag here differ)
+            (λ m differ here. prefixes m host tag here differ)
             o at)
-            (λ m differ. still_front (chain (w.journal m) 0 host tag) o host tag (holds.fronts m o host tag at))
+            (λ m differ. still_prefix (chain (w.journal m) 0 host tag) o host tag (holds.prefixes m o host tag at))
             node;
         strangers = λ node host tag no. at_each w n (w.journal n ++ batch) (λ m journal. chain journal 0 host tag ≡ []) (strangers host tag no) (λ m differ. holds.strangers m host tag no) node;
         cuts = λ number records at.
@@ -97,7 +97,7 @@ same_holds hosts w holds n =
     let nothing : w.journal n ++ [] ≡ w.journal n = append-nil (w.journal n) in
     subst (λ journal. Holds hosts (with_journal w n journal)) nothing (batch_holds hosts w holds n []
     (λ host at. subst (λ journal. Sound journal host) (sym nothing) (holds.sound n host at))
-    (λ o host tag at differ. subst (λ journal. IsPrefix (chain journal 0 host tag) (chain (w.journal o) 0 host tag)) (sym nothing) (holds.fronts n o host tag at))
+    (λ o host tag at differ. subst (λ journal. IsPrefix (chain journal 0 host tag) (chain (w.journal o) 0 host tag)) (sym nothing) (holds.prefixes n o host tag at))
     (λ host tag no. ap (λ journal. chain journal 0 host tag) nothing ∙ holds.strangers n host tag no))
 
 -- ---- a step
@@ -111,7 +111,7 @@ append_holds step makes hosts w node asked new apart holds appends =
     let others : (other : ℕ) (tag : List ℕ) → host ≢ other → chain (w.journal node ++ batch) 0 other tag ≡ chain (w.journal node) 0 other tag = own_leaves_others host (w.journal node) batch appends.after own in
     subst (Holds hosts) (sym (appends.becomes ∙ ap (with_journal w node) own.behind)) (batch_holds hosts w holds node batch
     (λ other at. subst (λ journal. Sound journal other) own.behind (subst (Sound appends.after) (same_Some host other (sym appends.at_host ∙ at)) own.sound))
-    (λ o other tag at differ. subst (λ xs. IsPrefix xs (chain (w.journal o) 0 other tag)) (sym (others other tag (λ same. differ (apart o node other at (appends.at_host ∙ ap Some same))))) (holds.fronts node o other tag at))
+    (λ o other tag at differ. subst (λ xs. IsPrefix xs (chain (w.journal o) 0 other tag)) (sym (others other tag (λ same. differ (apart o node other at (appends.at_host ∙ ap Some same))))) (holds.prefixes node o other tag at))
     (λ other tag no. others other tag (λ same. no node (appends.at_host ∙ ap Some same)) ∙ holds.strangers node other tag no))
 
 -- ---- a page that comes
@@ -134,28 +134,28 @@ module _ (hosts : List ℕ) (w : World) (holds : Holds hosts w) (node : ℕ) (ca
   grows_as_slice = ap (grow (w.journal node) caller 0) (cut_is_slice records (chain (w.journal from.origin) 0 from.host from.tag) from.cut)
 
   no_fork : (position id : ℕ) → grow (w.journal node) caller 0 records ≡ Err (PageForked position id) → ⊥
-  no_fork position id refused = slice_never_forks (w.journal node) caller 0 from.host from.tag (chain (w.journal from.origin) 0 from.host from.tag) (length from.cut.before) (length records) position id from_goes_on (holds.fronts node from.origin from.host from.tag from.at_host) (grows_as_slice ∙ refused)
+  no_fork position id refused = slice_never_forks (w.journal node) caller 0 from.host from.tag (chain (w.journal from.origin) 0 from.host from.tag) (length from.cut.before) (length records) position id from_goes_on (holds.prefixes node from.origin from.host from.tag from.at_host) (grows_as_slice ∙ refused)
 
   module _ (apart : HostsDiffer hosts) (of_host : ℕ) (at_node : host_at hosts node ≡ Some of_host) (batch : List Entry) (taken : grow (w.journal node) caller 0 records ≡ Ok batch) where
     other_chain : (host : ℕ) (tag : List ℕ) → (from.host ≢ host) ⊎ (from.tag ≢ tag) → chain (w.journal node ++ batch) 0 host tag ≡ chain (w.journal node) 0 host tag
     other_chain host tag differ = slice_leaves_other_chains (w.journal node) caller 0 from.host from.tag (chain (w.journal from.origin) 0 from.host from.tag) (length from.cut.before) (length records) host tag batch from_goes_on differ (grows_as_slice ∙ taken)
 
     own_chain : IsPrefix (chain (w.journal node ++ batch) 0 from.host from.tag) (chain (w.journal from.origin) 0 from.host from.tag)
-    own_chain = slice_keeps_front (w.journal node) of_host caller 0 from.host from.tag (chain (w.journal from.origin) 0 from.host from.tag) (length from.cut.before) (length records) batch (holds.sound node of_host at_node) from_goes_on (holds.fronts node from.origin from.host from.tag from.at_host) (grows_as_slice ∙ taken)
+    own_chain = slice_keeps_prefix (w.journal node) of_host caller 0 from.host from.tag (chain (w.journal from.origin) 0 from.host from.tag) (length from.cut.before) (length records) batch (holds.sound node of_host at_node) from_goes_on (holds.prefixes node from.origin from.host from.tag from.at_host) (grows_as_slice ∙ taken)
 
-    front_after : (o host : ℕ) (tag : List ℕ) → host_at hosts o ≡ Some host → IsPrefix (chain (w.journal node ++ batch) 0 host tag) (chain (w.journal o) 0 host tag)
-    front_after o host tag at =
+    prefix_after : (o host : ℕ) (tag : List ℕ) → host_at hosts o ≡ Some host → IsPrefix (chain (w.journal node ++ batch) 0 host tag) (chain (w.journal o) 0 host tag)
+    prefix_after o host tag at =
         elim (same_or_other from.host host from.tag tag) [
           | inl same ↦
               let origin : from.origin ≡ o = apart from.origin o host (from.at_host ∙ ap Some same.0) at in
               subst (λ k. IsPrefix (chain (w.journal node ++ batch) 0 host tag) (chain (w.journal k) 0 host tag)) origin (subst (λ t. IsPrefix (chain (w.journal node ++ batch) 0 host t) (chain (w.journal from.origin) 0 host t)) same.1 (subst (λ h. IsPrefix (chain (w.journal node ++ batch) 0 h from.tag) (chain (w.journal from.origin) 0 h from.tag)) same.0 own_chain))
-          | inr differ ↦ subst (λ xs. IsPrefix xs (chain (w.journal o) 0 host tag)) (sym (other_chain host tag differ)) (holds.fronts node o host tag at)
+          | inr differ ↦ subst (λ xs. IsPrefix xs (chain (w.journal o) 0 host tag)) (sym (other_chain host tag differ)) (holds.prefixes node o host tag at)
         ]
 
     taken_holds : Holds hosts (with_journal w node (w.journal node ++ batch))
     taken_holds = batch_holds hosts w holds node batch
         (λ host at. subst (λ result. Sound (grown (w.journal node) result) host) taken (growth_stays_sound (w.journal node) host caller 0 records (holds.sound node host at)))
-        (λ o host tag at differ. front_after o host tag at)
+        (λ o host tag at differ. prefix_after o host tag at)
         (λ host tag no. other_chain host tag (inl (λ same. no from.origin (from.at_host ∙ ap Some same))) ∙ holds.strangers node host tag no)
 
   grown_holds : HostsDiffer hosts → (of_host : ℕ) → host_at hosts node ≡ Some of_host → (result : Result (List Entry) PageRefusal) → grow (w.journal node) caller 0 records ≡ result → Holds hosts (with_journal w node (grown (w.journal node) result))
@@ -191,7 +191,7 @@ page_was_cut hosts w holds node host tag start count =
         host = host;
         tag = tag;
         at_host = found.1;
-        cut = page_is_cut (w.journal node) 0 host tag start count (chain (w.journal found.0) 0 host tag) (holds.fronts node found.0 host tag found.1);
+        cut = page_is_cut (w.journal node) 0 host tag start count (chain (w.journal found.0) 0 host tag) (holds.prefixes node found.0 host tag found.1);
       }
       | inr none ↦ record {
         origin = 0;
@@ -207,7 +207,7 @@ send_holds hosts w node host tag start count new holds sends =
     let given = page (w.journal node) 0 host tag start count in
     subst (Holds hosts) (sym sends.becomes) (record {
       sound = holds.sound;
-      fronts = holds.fronts;
+      prefixes = holds.prefixes;
       strangers = holds.strangers;
       cuts = λ number records at. elim (slice_get_push w.sent given records number at) [
         | inl old ↦ from_old (holds.cuts number records old.1)
@@ -253,7 +253,7 @@ pub status_tells_chains : (hosts : List ℕ) (w : World) → Holds hosts w → S
 status_tells_chains hosts w holds node other same host tag =
     let lengths : length (chain (w.journal node) 0 host tag) ≡ length (chain (w.journal other) 0 host tag) = sym (status_counts (w.journal node) 0 host tag) ∙ ap (λ counts. count_at counts host tag) same ∙ status_counts (w.journal other) 0 host tag in
     elim (find_place (0 ∷ hosts) host) [
-      | inl found ↦ prefixes-alike (chain (w.journal node) 0 host tag) (chain (w.journal other) 0 host tag) (chain (w.journal found.0) 0 host tag) (holds.fronts node found.0 host tag found.1) (holds.fronts other found.0 host tag found.1) lengths
+      | inl found ↦ prefixes-alike (chain (w.journal node) 0 host tag) (chain (w.journal other) 0 host tag) (chain (w.journal found.0) 0 host tag) (holds.prefixes node found.0 host tag found.1) (holds.prefixes other found.0 host tag found.1) lengths
       | inr none ↦ holds.strangers node host tag none ∙ sym (holds.strangers other host tag none)
     ]
 

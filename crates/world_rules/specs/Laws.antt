@@ -16,9 +16,9 @@ InEachWorld P = (hosts : List ℕ) (events : List (WorldEvent (List Entry))) (w 
 abbrev pub NodesAreSound : List ℕ → World → Type 0
 NodesAreSound hosts w = (node host : ℕ) → host_at hosts node ≡ Some host → Sound (w.journal node) host
 
--- each chain of each node is a front of that chain at its own host's node
-abbrev pub ChainsAreFronts : List ℕ → World → Type 0
-ChainsAreFronts hosts w = (node origin host : ℕ) (tag : List ℕ) → host_at hosts origin ≡ Some host → IsPrefix (chain (w.journal node) 0 host tag) (chain (w.journal origin) 0 host tag)
+-- each chain of each node is a prefix of that chain at its own host's node
+abbrev pub ChainsArePrefixes : List ℕ → World → Type 0
+ChainsArePrefixes hosts w = (node origin host : ℕ) (tag : List ℕ) → host_at hosts origin ≡ Some host → IsPrefix (chain (w.journal node) 0 host tag) (chain (w.journal origin) 0 host tag)
 
 -- no node has a chain of a host that is no node's
 abbrev pub NoStrangeChains : List ℕ → World → Type 0

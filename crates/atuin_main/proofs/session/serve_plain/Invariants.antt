@@ -1,5 +1,5 @@
 use Rattle.std.proofs.Common.{◌≡◌, ◌≤◌, length}
-use Rattle.definitions.specs.Frames.{most_payload_bytes}
+use Rattle.definitions.specs.Limits.{most_payload_bytes}
 use Rattle.atuin_main.proofs.Sessions.{Serves}
 use Rattle.atuin_main.proofs.session.serve_plain.Given as goal
 

@@ -1,6 +1,6 @@
 use Rattle.std.proofs.Common.{◌∙◌, arith, List, ℕ, ◌≡◌, ◌≤◌, length, take, subst}
 use Rattle.std.proofs.lemmas.List.{length-take}
-use Rattle.definitions.specs.Frames.{most_payload_bytes}
+use Rattle.definitions.specs.Limits.{most_payload_bytes}
 use Rattle.at_edge.specs.Writing.{Holds, Stopped}
 use Rattle.atuin_main.proofs.session.take_turn.Goals as goal
 

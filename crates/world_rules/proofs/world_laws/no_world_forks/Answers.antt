@@ -4,8 +4,8 @@ use Rattle.world_rules.proofs.world_laws.no_world_forks.Goals as goal
 pub returns-clause-sound : goal.returns-clause-sound
 returns-clause-sound c = λ hosts events w apart reach. (world_holds hosts events w apart reach).sound
 
-pub returns-clause-fronts : goal.returns-clause-fronts
-returns-clause-fronts c = λ hosts events w apart reach. (world_holds hosts events w apart reach).fronts
+pub returns-clause-prefixes : goal.returns-clause-prefixes
+returns-clause-prefixes c = λ hosts events w apart reach. (world_holds hosts events w apart reach).prefixes
 
 pub returns-clause-no_strangers : goal.returns-clause-no_strangers
 returns-clause-no_strangers c = λ hosts events w apart reach. (world_holds hosts events w apart reach).strangers

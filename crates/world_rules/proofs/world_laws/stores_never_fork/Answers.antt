@@ -5,8 +5,8 @@ use Rattle.world_rules.proofs.world_laws.stores_never_fork.Goals as goal
 pub returns-clause-sound : goal.returns-clause-sound
 returns-clause-sound c = λ store hosts events w well apart reach. (store_world_holds store hosts events w well apart reach).sound
 
-pub returns-clause-fronts : goal.returns-clause-fronts
-returns-clause-fronts c = λ store hosts events w well apart reach. (store_world_holds store hosts events w well apart reach).fronts
+pub returns-clause-prefixes : goal.returns-clause-prefixes
+returns-clause-prefixes c = λ store hosts events w well apart reach. (store_world_holds store hosts events w well apart reach).prefixes
 
 pub returns-clause-no_strangers : goal.returns-clause-no_strangers
 returns-clause-no_strangers c = λ store hosts events w well apart reach. (store_world_holds store hosts events w well apart reach).strangers

@@ -1,4 +1,4 @@
--- The front of a sound journal is sound, and its last entry may follow that front.
+-- The prefix of a sound journal is sound, and its last entry may follow that prefix.
 use Rattle.std.proofs.Common.{◌≡◌, ◌≢◌, ℕ, ◌+◌, ◌<◌, ◌≤◌, false, cond, inl, inr, List, [], ◌∷◌, ◌++◌, length, filter, take, Some, None, refl, sym, ◌∙◌, ap, subst, arith, append_assoc}
 use Rattle.std.specs.Prelude.{IfSome, slice_get, All, IsTrue, sum_by, nat_lt}
 use Rattle.std.specs.Option.{option_or}
@@ -8,51 +8,51 @@ use Rattle.std.proofs.lemmas.List.{append-nil, map-append, take_at, take-append-
 use Rattle.std.proofs.lemmas.List.Sums.{sum_by-append}
 use Rattle.std.proofs.lemmas.List.Elements.{filter-append, filter_map-append}
 use Rattle.definitions.specs.Journal.{StartedRecord}
-use Rattle.record_rules.specs.Limits.{most_entries, most_held_weight, most_places}
+use Rattle.definitions.specs.Limits.{most_entries, most_held_weight, most_places}
 use Rattle.record_rules.specs.Records.{SealedRecord, Entry, Event, Started, Local, Taken, event_weight}
 use Rattle.record_rules.specs.Journal.{event_owner, event_record, event_place, events_of, own_of, records_of, in_place, IsNumbered, EventFits, IsOfHost, TotalsFit, held_of, places_of, places_added, limit_passed, closes_id, is_running, PassedLimit, SoundEvents, Sound, MayComeNext, MayFollow}
-use Rattle.record_rules.proofs.Options.{slice_get_front, slice_get_last}
+use Rattle.record_rules.proofs.Options.{slice_get_prefix, slice_get_last}
 use Rattle.record_rules.proofs.Spots.{in_place_itself}
 use Rattle.record_rules.proofs.Soundness.{ClosesRunning, StartedApart, events_more, owned_more, owned_same}
 use Rattle.record_rules.proofs.Totals.{places_more}
 
 -- ---- of a list with one more element
 
-All_front : {A : Type 0} (P : A → Type 0) (xs : List A) (y : A) → All P (xs ++ y ∷ []) → All P xs
-All_front P xs y all k d within = subst P (get_or_append_left xs (y ∷ []) d k within) (all k d (let longer = length_push xs y in omega arith))
+All_prefix : {A : Type 0} (P : A → Type 0) (xs : List A) (y : A) → All P (xs ++ y ∷ []) → All P xs
+All_prefix P xs y all k d within = subst P (get_or_append_left xs (y ∷ []) d k within) (all k d (let longer = length_push xs y in omega arith))
 
 All_last : {A : Type 0} (P : A → Type 0) (xs : List A) (y : A) → All P (xs ++ y ∷ []) → P y
 All_last P xs y all = subst P (get_or_push xs y y (length xs) refl) (all (length xs) y (let longer = length_push xs y in omega arith))
 
 slice_get_kept : {A : Type 0} (xs ys : List A) (k : ℕ) (x : A) → slice_get xs k ≡ Some x → slice_get (xs ++ ys) k ≡ Some x
-slice_get_kept xs ys k x at = slice_get_front xs ys k (slice_get_within xs k x at) ∙ at
+slice_get_kept xs ys k x at = slice_get_prefix xs ys k (slice_get_within xs k x at) ∙ at
 
-IsNumbered_front : (records more : List SealedRecord) → IsNumbered (records ++ more) → IsNumbered records
-IsNumbered_front records more numbered k r at = numbered k r (slice_get_kept records more k r at)
+IsNumbered_prefix : (records more : List SealedRecord) → IsNumbered (records ++ more) → IsNumbered records
+IsNumbered_prefix records more numbered k r at = numbered k r (slice_get_kept records more k r at)
 
-closes_front : (events : List Event) (event : Event) → ClosesRunning (events ++ event ∷ []) → ClosesRunning events
-closes_front events event all k closed r at =
+closes_prefix : (events : List Event) (event : Event) → ClosesRunning (events ++ event ∷ []) → ClosesRunning events
+closes_prefix events event all k closed r at =
     let within : k < length events = slice_get_within events k (Local (Some closed) r) at in
-    subst (λ front. IsTrue (is_running closed front)) (take-append-le k events (event ∷ []) (omega arith)) (all k closed r (slice_get_kept events (event ∷ []) k (Local (Some closed) r) at))
+    subst (λ prefix. IsTrue (is_running closed prefix)) (take-append-le k events (event ∷ []) (omega arith)) (all k closed r (slice_get_kept events (event ∷ []) k (Local (Some closed) r) at))
 
 closes_last : (events : List Event) (event : Event) → ClosesRunning (events ++ event ∷ []) → (closed : ℕ) → IsTrue (closes_id closed event) → IsTrue (is_running closed events)
 closes_last events (Started s) all closed closes = absurd (true≢false (sym closes))
 closes_last events (Local None r) all closed closes = absurd (true≢false (sym closes))
 closes_last events (Local (Some id) r) all closed closes =
     let here : IsTrue (is_running id (take (length events) (events ++ Local (Some id) r ∷ []))) = all (length events) id r (slice_get_last events (Local (Some id) r)) in
-    subst (λ n. IsTrue (is_running n events)) (eqb-true id closed closes) (subst (λ front. IsTrue (is_running id front)) (take_at events (Local (Some id) r ∷ []) (length events) refl) here)
+    subst (λ n. IsTrue (is_running n events)) (eqb-true id closed closes) (subst (λ prefix. IsTrue (is_running id prefix)) (take_at events (Local (Some id) r ∷ []) (length events) refl) here)
 closes_last events (Taken owner r) all closed closes = absurd (true≢false (sym closes))
 
-apart_front : (events : List Event) (event : Event) → StartedApart (events ++ event ∷ []) → StartedApart events
-apart_front events event all i k s t below at_i at_k = all i k s t below (slice_get_kept events (event ∷ []) i (Started s) at_i) (slice_get_kept events (event ∷ []) k (Started t) at_k)
+apart_prefix : (events : List Event) (event : Event) → StartedApart (events ++ event ∷ []) → StartedApart events
+apart_prefix events event all i k s t below at_i at_k = all i k s t below (slice_get_kept events (event ∷ []) i (Started s) at_i) (slice_get_kept events (event ∷ []) k (Started t) at_k)
 
 apart_last : (events : List Event) (event : Event) → StartedApart (events ++ event ∷ []) → (k : ℕ) (s t : StartedRecord) → slice_get events k ≡ Some (Started s) → event ≡ Started t → s.id ≢ t.id
 apart_last events event all k s t at is = all k (length events) s t (slice_get_within events k (Started s) at) (slice_get_kept events (event ∷ []) k (Started s) at) (slice_get_last events event ∙ ap Some is)
 
 -- ---- totals
 
-pub held_front : (events : List Event) (event : Event) → TotalsFit (held_of (events ++ event ∷ [])) → TotalsFit (held_of events)
-held_front events event fit = record {
+pub held_shorter : (events : List Event) (event : Event) → TotalsFit (held_of (events ++ event ∷ [])) → TotalsFit (held_of events)
+held_shorter events event fit = record {
   entries = let longer = length_push events event in let h = fit.entries in omega arith;
   weight = let heavier = sum_by-append event_weight events (event ∷ []) in let h = fit.weight in omega arith;
   places = let wider = places_more events event in let h = fit.places in omega arith;
@@ -67,7 +67,7 @@ held_last events event fit =
 
 pub held_prefix : (events more : List Event) → TotalsFit (held_of (events ++ more)) → TotalsFit (held_of events)
 held_prefix events [] fit = subst (λ all. TotalsFit (held_of all)) (append-nil events) fit
-held_prefix events (event ∷ more) fit = held_front events event (held_prefix (events ++ event ∷ []) more (subst (λ all. TotalsFit (held_of all)) (sym (append_assoc events (event ∷ []) more)) fit))
+held_prefix events (event ∷ more) fit = held_shorter events event (held_prefix (events ++ event ∷ []) more (subst (λ all. TotalsFit (held_of all)) (sym (append_assoc events (event ∷ []) more)) fit))
 
 -- ---- of events with one more
 
@@ -82,10 +82,10 @@ last_is_next events (Started s) numbered = tt
 last_is_next events (Local closes r) numbered = record_is_next (records_of events) r (subst (λ records. IsNumbered (filter (in_place r.host r.tag) records)) (filter_map-append event_record events (Local closes r ∷ [])) (numbered r.host r.tag))
 last_is_next events (Taken owner r) numbered = record_is_next (records_of events) r (subst (λ records. IsNumbered (filter (in_place r.host r.tag) records)) (filter_map-append event_record events (Taken owner r ∷ [])) (numbered r.host r.tag))
 
-chain_front : (host : ℕ) (tag : List ℕ) (events more : List Event) → IsNumbered (filter (in_place host tag) (records_of (events ++ more))) → IsNumbered (filter (in_place host tag) (records_of events))
-chain_front host tag events more numbered =
+chain_prefix : (host : ℕ) (tag : List ℕ) (events more : List Event) → IsNumbered (filter (in_place host tag) (records_of (events ++ more))) → IsNumbered (filter (in_place host tag) (records_of events))
+chain_prefix host tag events more numbered =
     let split : filter (in_place host tag) (records_of (events ++ more)) ≡ filter (in_place host tag) (records_of events) ++ filter (in_place host tag) (records_of more) = ap (filter (in_place host tag)) (filter_map-append event_record events more) ∙ filter-append (in_place host tag) (records_of events) (records_of more) in
-    IsNumbered_front (filter (in_place host tag) (records_of events)) (filter (in_place host tag) (records_of more)) (subst IsNumbered split numbered)
+    IsNumbered_prefix (filter (in_place host tag) (records_of events)) (filter (in_place host tag) (records_of more)) (subst IsNumbered split numbered)
 
 -- what holds of what an owner holds with the event holds without it
 without_event : (events : List Event) (event : Event) (P : List Event → Type 0) → ((owned : List Event) → P (owned ++ event ∷ []) → P owned) → (owner : ℕ) → P (own_of (events ++ event ∷ []) owner) → P (own_of events owner)
@@ -95,14 +95,14 @@ without_event events event P shorter owner all =
       | inr differ ↦ subst P (owned_same events event owner differ) all
     ]
 
-pub SoundEvents-front : (events : List Event) (host : ℕ) (event : Event) → SoundEvents (events ++ event ∷ []) host → SoundEvents events host
-SoundEvents-front events host event sound = record {
-  numbered = λ owner at tag. without_event events event (λ owned. IsNumbered (filter (in_place at tag) (records_of owned))) (λ owned. chain_front at tag owned (event ∷ [])) owner (sound.numbered owner at tag);
-  made_here = All_front (IsOfHost host) events event sound.made_here;
-  closes_running = closes_front events event sound.closes_running;
-  started_apart = apart_front events event sound.started_apart;
-  events_fit = All_front EventFits events event sound.events_fit;
-  held_fits = λ owner. without_event events event (λ owned. TotalsFit (held_of owned)) (λ owned. held_front owned event) owner (sound.held_fits owner);
+pub SoundEvents-shorter : (events : List Event) (host : ℕ) (event : Event) → SoundEvents (events ++ event ∷ []) host → SoundEvents events host
+SoundEvents-shorter events host event sound = record {
+  numbered = λ owner at tag. without_event events event (λ owned. IsNumbered (filter (in_place at tag) (records_of owned))) (λ owned. chain_prefix at tag owned (event ∷ [])) owner (sound.numbered owner at tag);
+  made_here = All_prefix (IsOfHost host) events event sound.made_here;
+  closes_running = closes_prefix events event sound.closes_running;
+  started_apart = apart_prefix events event sound.started_apart;
+  events_fit = All_prefix EventFits events event sound.events_fit;
+  held_fits = λ owner. without_event events event (λ owned. TotalsFit (held_of owned)) (λ owned. held_shorter owned event) owner (sound.held_fits owner);
 }
 
 pub last_may_come : (events : List Event) (host : ℕ) (event : Event) → SoundEvents (events ++ event ∷ []) host → MayComeNext events host event
@@ -122,12 +122,12 @@ last_may_come events host event sound =
 -- events are sound as far as any place
 pub SoundEvents-prefix : (events more : List Event) (host : ℕ) → SoundEvents (events ++ more) host → SoundEvents events host
 SoundEvents-prefix events [] host sound = subst (λ all. SoundEvents all host) (append-nil events) sound
-SoundEvents-prefix events (event ∷ more) host sound = SoundEvents-front events host event (SoundEvents-prefix (events ++ event ∷ []) more host (subst (λ all. SoundEvents all host) (sym (append_assoc events (event ∷ []) more)) sound))
+SoundEvents-prefix events (event ∷ more) host sound = SoundEvents-shorter events host event (SoundEvents-prefix (events ++ event ∷ []) more host (subst (λ all. SoundEvents all host) (sym (append_assoc events (event ∷ []) more)) sound))
 
 -- ---- journals
 
-pub Sound-front : (journal : List Entry) (host : ℕ) (entry : Entry) → Sound (journal ++ entry ∷ []) host → Sound journal host
-Sound-front journal host entry sound = SoundEvents-front (events_of journal) host entry.event (subst (λ events. SoundEvents events host) (events_more journal entry) sound)
+pub Sound-shorter : (journal : List Entry) (host : ℕ) (entry : Entry) → Sound (journal ++ entry ∷ []) host → Sound journal host
+Sound-shorter journal host entry sound = SoundEvents-shorter (events_of journal) host entry.event (subst (λ events. SoundEvents events host) (events_more journal entry) sound)
 
 pub last_may_follow : (journal : List Entry) (host : ℕ) (entry : Entry) → Sound (journal ++ entry ∷ []) host → MayFollow journal host entry.event
 last_may_follow journal host entry sound = last_may_come (events_of journal) host entry.event (subst (λ events. SoundEvents events host) (events_more journal entry) sound)

@@ -1,7 +1,7 @@
 -- What the exports that seal and open leave.
 use Rattle.std.specs.Prelude.{◌≡◌, ℕ, ◌+◌, ◌*◌, ◌^◌, List, ◌++◌, length, drop, codes}
 use Rattle.record_rules.specs.Records.{SealedRecord}
-use Rattle.record_seal.specs.Seals.{seal_of, OpensTo}
+use Rattle.record_seal.specs.Seals.{seal_of, OpensToBytes}
 use Rattle.step_rules.specs.Store.{Head, Seal, sealed_record}
 
 -- record id 1 of host 1
@@ -22,5 +22,5 @@ pub data LeavesSeal (key drawn : List ℕ) (idx : ℕ) (payload old : List ℕ) 
 -- nothing, or a payload that the record opens to, and its length
 pub data LeavesPayload (key : List ℕ) (idx : ℕ) (sealed wrapped old : List ℕ) (answer : ℕ) (new : List ℕ) : Type 0 where
   not_opened : answer ≡ 0 → new ≡ old → LeavesPayload key idx sealed wrapped old answer new
-  opened : (payload : List ℕ) → OpensTo key (bench_record idx sealed wrapped) payload → answer ≡ length payload
+  opened : (payload : List ℕ) → OpensToBytes key (bench_record idx sealed wrapped) payload → answer ≡ length payload
       → new ≡ payload ++ drop (length payload) old → LeavesPayload key idx sealed wrapped old answer new

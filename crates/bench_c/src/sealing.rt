@@ -2,7 +2,7 @@
 
 ghost use Rattle.std.specs.Prelude.{◌≡◌, ◌+◌, ◌<◌, ◌≤◌, ◌^◌, ◌++◌, length, drop, IfOk};
 ghost use Rattle.record_model.specs.Seen.{record_seen};
-ghost use Rattle.record_seal.specs.Seals.{seal_of, OpensTo};
+ghost use Rattle.record_seal.specs.Seals.{seal_of, OpensToBytes};
 ghost use Rattle.record_seal.specs.Seen.{head_seen, seal_seen};
 ghost use Rattle.bench_c.specs.Sealing.{bench_head, bench_record, LeavesSeal, LeavesPayload};
 
@@ -127,7 +127,7 @@ fn opened(
 ) -> Result<Bytes, SealFail>
     requires sealed { length sealed.now < 2 ^ 32 }
     requires wrapped { length wrapped.now < 2 ^ 32 }
-    ensures { IfOk result (λ payload. OpensTo key.now (bench_record idx sealed.now wrapped.now) payload.items) }
+    ensures { IfOk result (λ payload. OpensToBytes key.now (bench_record idx sealed.now wrapped.now) payload.items) }
 {
     let (Ok(sealed), Ok(wrapped)) = (str::from_utf8(sealed), str::from_utf8(wrapped)) else {
         return Err(SealFail::BadSeal);

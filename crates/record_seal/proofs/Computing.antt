@@ -20,7 +20,7 @@ use Rattle.record_rules.specs.Records.{SealedRecord}
 use Rattle.record_seal.specs.Assertion.{assertion, head_of}
 use Rattle.record_seal.specs.Computing.{are_bytes, bytes_coded, bytes_in, body_behind, message_of_body, key_of_body, json_value, key_wrapped, key_of_value, content_key_of, payload_of_message, payload_by, opened_payload}
 use Rattle.record_seal.specs.Json.{ReadsJson, text_member}
-use Rattle.record_seal.specs.Seals.{IsKeyText, IsMessage, OpensTo}
+use Rattle.record_seal.specs.Seals.{IsKeyText, IsMessage, OpensToBytes}
 use Rattle.record_seal.specs.Unsealing.{GivesKey}
 use Rattle.record_seal.proofs.OneReading.{gives_of}
 use Rattle.serde_json.specs.Data.{Data}
@@ -251,7 +251,7 @@ said_by_message text payload is =
 
 -- ---- records
 
-pub payload_stands : (key : List ℕ) (r : SealedRecord) (payload : List ℕ) → opened_payload key r ≡ Some payload → OpensTo key r payload
+pub payload_stands : (key : List ℕ) (r : SealedRecord) (payload : List ℕ) → opened_payload key r ≡ Some payload → OpensToBytes key r payload
 unfolding opened_payload
 payload_stands key r payload e =
     let given = some_then (payload_by r) (content_key_of key r.wrapped) payload e in
@@ -270,7 +270,7 @@ payload_stands key r payload e =
       message_is = message_says message.0 payload message.2;
     }
 
-pub payload_found : (key : List ℕ) (r : SealedRecord) (payload : List ℕ) → OpensTo key r payload → opened_payload key r ≡ Some payload
+pub payload_found : (key : List ℕ) (r : SealedRecord) (payload : List ℕ) → OpensToBytes key r payload → opened_payload key r ≡ Some payload
 unfolding opened_payload
 payload_found key r payload o =
     let implicit = assertion (head_of r) in

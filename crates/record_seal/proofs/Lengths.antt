@@ -12,6 +12,7 @@ use Rattle.paseto_seal.specs.Token.{token, token_body, token_header}
 use Rattle.paseto_seal.specs.Wrap.{wrap, wrap_body, wrap_header}
 use Rattle.record_rules.specs.Records.{record_weight}
 use Rattle.record_seal.specs.Assertion.{assertion}
+use Rattle.record_seal.specs.SealLengths.{sealed_text_length, key_text_length}
 use Rattle.record_seal.specs.Seals.{message_text, key_text, seal_of}
 use Rattle.step_rules.specs.Store.{Head, sealed_record}
 
@@ -45,21 +46,32 @@ length-key_text wrapped id =
 piece : (at : ℕ) (random : List ℕ) → length random ≡ 96 → at + 32 ≤ 96 → length (take 32 (drop at random)) ≡ 32
 piece at random long fits = omega (arith, length-take 32 (drop at random), length-drop at random)
 
+-- the two texts of a seal
+pub sealed_has : (key : List ℕ) (head : Head) (payload random : List ℕ) → length random ≡ 96
+    → length (seal_of key head payload random).sealed ≡ sealed_text_length (length payload)
+sealed_has key head payload random long =
+    omega (
+      arith,
+      length-token (take 32 random) (take 32 (drop 32 random)) (message_text payload) (assertion head) (piece 32 random long (lit≤ tt)),
+      length-message_text payload,
+    )
+
+pub wrapped_has : (key : List ℕ) (head : Head) (payload random : List ℕ) → length random ≡ 96
+    → length (seal_of key head payload random).wrapped ≡ key_text_length
+wrapped_has key head payload random long =
+    let content_key = take 32 random in
+    let nonce = take 32 (drop 64 random) in
+    let content_long : length content_key ≡ 32 = omega (arith, length-take 32 random) in
+    omega (
+      arith,
+      length-key_text (wrap key nonce content_key) (key_id_of key),
+      length-wrap key nonce content_key (piece 64 random long (lit≤ tt)) content_long,
+      length-key_id_of key,
+    )
+
 -- what a record weighs, by the lengths of its version, its tag and its payload
 pub weight_is : (key : List ℕ) (head : Head) (payload random : List ℕ) (now : ℕ) → length random ≡ 96
     → record_weight (sealed_record head now (seal_of key head payload random))
-    ≡ 128 + length head.version + length head.tag + (9 + (4 * (64 + ((4 * length payload + 2) / 3 + 11)) + 2) / 3) + 216
+    ≡ 128 + length head.version + length head.tag + sealed_text_length (length payload) + key_text_length
 weight_is key head payload random now long =
-    let content_key = take 32 random in
-    let token_nonce = take 32 (drop 32 random) in
-    let wrap_nonce = take 32 (drop 64 random) in
-    let content_long : length content_key ≡ 32 = omega (arith, length-take 32 random) in
-    let wrapped = wrap key wrap_nonce content_key in
-    omega (
-      arith,
-      length-token content_key token_nonce (message_text payload) (assertion head) (piece 32 random long (lit≤ tt)),
-      length-message_text payload,
-      length-key_text wrapped (key_id_of key),
-      length-wrap key wrap_nonce content_key (piece 64 random long (lit≤ tt)) content_long,
-      length-key_id_of key,
-    )
+    omega (arith, sealed_has key head payload random long, wrapped_has key head payload random long)

@@ -6,3 +6,5 @@ pub mod OneReading
 pub mod PlainTexts
 pub mod Refusing
 pub mod SealedOpens
+pub mod StoreSealing
+pub mod Telling

@@ -10,7 +10,7 @@ use Rattle.paseto_seal.specs.Wrap.{Unwraps}
 use Rattle.record_rules.specs.Records.{SealedRecord}
 use Rattle.record_seal.specs.Assertion.{assertion, head_of}
 use Rattle.record_seal.specs.Json.{ReadsJson, text_member}
-use Rattle.record_seal.specs.Seals.{IsKeyText, IsMessage, OpensTo}
+use Rattle.record_seal.specs.Seals.{IsKeyText, IsMessage, OpensToBytes}
 use Rattle.record_seal.specs.Unsealing.{NamesOther, GivesKey}
 use Rattle.serde_json.specs.Data.{Data}
 
@@ -52,11 +52,11 @@ names_none key text content_key id gives names =
     names.other (sym (key_text_same text gives.wrapped (key_id_of key) names.wrapped id gives.key_text_is names.key_text_is).1)
 
 -- what opens gives its content key
-pub gives_of : (key : List ℕ) (r : SealedRecord) (payload : List ℕ) → (o : OpensTo key r payload) → GivesKey key r.wrapped o.content_key
+pub gives_of : (key : List ℕ) (r : SealedRecord) (payload : List ℕ) → (o : OpensToBytes key r payload) → GivesKey key r.wrapped o.content_key
 gives_of key r payload o = record { wrapped = o.wrapped; key_text_is = o.key_text_is; unwrapped = o.unwrapped }
 
 -- and its token opens under the content key that its text gives
-pub opened_by : (key : List ℕ) (r : SealedRecord) (content_key payload : List ℕ) → GivesKey key r.wrapped content_key → (o : OpensTo key r payload)
+pub opened_by : (key : List ℕ) (r : SealedRecord) (content_key payload : List ℕ) → GivesKey key r.wrapped content_key → (o : OpensToBytes key r payload)
     → Opens content_key r.sealed (assertion (head_of r)) o.message
 opened_by key r content_key payload gives o =
     subst (λ k. Opens k r.sealed (assertion (head_of r)) o.message)
@@ -69,7 +69,7 @@ message_same text p q first second =
     base64url_same p q first.payload_bytes second.payload_bytes
     (member_same text (codes "data") (base64url p) (base64url q) first.value second.value first.json second.json first.said second.said)
 
-pub payload_same : (key : List ℕ) (r : SealedRecord) (payload other : List ℕ) → OpensTo key r payload → OpensTo key r other → payload ≡ other
+pub payload_same : (key : List ℕ) (r : SealedRecord) (payload other : List ℕ) → OpensToBytes key r payload → OpensToBytes key r other → payload ≡ other
 payload_same key r payload other first second =
     let same : first.message ≡ second.message =
     opens_same first.content_key r.sealed (assertion (head_of r)) first.message second.message first.opened

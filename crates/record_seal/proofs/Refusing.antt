@@ -19,7 +19,7 @@ use Rattle.record_rules.specs.Records.{SealedRecord}
 use Rattle.record_seal.proofs.OneReading.{member_same, member_missing, key_text_same, names_none, gives_of, opened_by}
 use Rattle.record_seal.specs.Assertion.{assertion, head_of}
 use Rattle.record_seal.specs.Json.{ReadsJson, text_member}
-use Rattle.record_seal.specs.Seals.{IsKeyText, IsMessage, OpensTo}
+use Rattle.record_seal.specs.Seals.{IsKeyText, IsMessage, OpensToBytes}
 use Rattle.record_seal.specs.Seen.{token_refused, wrap_refused, text_refused}
 use Rattle.record_seal.specs.Unsealing.{NamesOther, GivesKey, ReadsKey, ReadsMessage, Unseals}
 use Rattle.record_seal.specs.declared.fail.SealFail.{SealFail}

@@ -2,6 +2,8 @@ pub mod Assertion
 pub mod Computing
 pub mod Json
 pub mod Laws
+pub mod SealLengths
 pub mod Seals
 pub mod Seen
+pub mod StoreSealing
 pub mod Unsealing

@@ -48,7 +48,7 @@ pub record IsMessage (text payload : List ℕ) : Type 0 where
   pub payload_bytes : IsBytes payload
 
 -- the record opens to the payload under the key
-pub record OpensTo (key : List ℕ) (r : SealedRecord) (payload : List ℕ) : Type 0 where
+pub record OpensToBytes (key : List ℕ) (r : SealedRecord) (payload : List ℕ) : Type 0 where
   pub wrapped : List ℕ
   pub key_text_is : IsKeyText r.wrapped wrapped (key_id_of key)
   pub content_key : List ℕ

@@ -4,7 +4,7 @@ use Rattle.plain_types.specs.Buffer.{Buffer}
 use Rattle.paseto_seal.specs.KeyId.{key_id_of}
 use Rattle.paseto_seal.specs.Wrap.{Unwraps}
 use Rattle.record_rules.specs.Records.{SealedRecord}
-use Rattle.record_seal.specs.Seals.{IsKeyText, IsMessage, OpensTo}
+use Rattle.record_seal.specs.Seals.{IsKeyText, IsMessage, OpensToBytes}
 use Rattle.record_seal.specs.declared.fail.SealFail.{SealFail}
 use Rattle.record_seal.specs.declared.fail.SealFail.TheVariants.{WrongKey, BadSeal, NoMemory}
 use Rattle.record_seal.specs.declared.group.Opened.{Opened}
@@ -18,9 +18,9 @@ pub record NamesOther (key text id : List ℕ) : Type 0 where
 
 -- opened to the payload; sealed under another key, which is named; neither that nor opened by any payload; for want of memory
 abbrev pub Unseals : (key : List ℕ) → SealedRecord → Result Buffer SealFail → Type 0
-Unseals key r (Ok payload) = OpensTo key r payload.items
+Unseals key r (Ok payload) = OpensToBytes key r payload.items
 Unseals key r (Err (WrongKey id)) = NamesOther key r.wrapped id
-Unseals key r (Err BadSeal) = ((id : List ℕ) → ¬ NamesOther key r.wrapped id) × ((payload : List ℕ) → ¬ OpensTo key r payload)
+Unseals key r (Err BadSeal) = ((id : List ℕ) → ¬ NamesOther key r.wrapped id) × ((payload : List ℕ) → ¬ OpensToBytes key r payload)
 Unseals key r (Err NoMemory) = Unit {0}
 
 -- an item of a group, as the answer that one record alone gives

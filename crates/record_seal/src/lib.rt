@@ -1,7 +1,7 @@
 //! Sealed records: a payload is sealed to what its record says in the open, and opened again.
 //!
 //! The model is the texts themselves. `specs/` defines the seal of a payload (`seal_of`), in which payload a record
-//! opens to (`OpensTo`) JSON is read as the kit's `serde_json` reads it, and what opening answers, by cases (`Unseals`):
+//! opens to (`OpensToBytes`) JSON is read as the kit's `serde_json` reads it, and what opening answers, by cases (`Unseals`):
 //! the payload, the id of the key that a record was sealed under, no seal of this key, or want of memory. Heads and
 //! records are those of `step_rules` and `record_rules`.
 //!
@@ -13,7 +13,7 @@
 //! It stands on `paseto_seal`, `record_model`, `plain_types` and the kit's `serde_json`, `json`, `uuid` and `rayon`.
 #![tactic(auto)]
 
-ghost use Rattle.record_seal.specs.Laws.{SealOpens, OpensToOne, PayloadIsComputed};
+ghost use Rattle.record_seal.specs.Laws.{SealOpens, OpensToOne, PayloadIsComputed, UnsealsAsComputed, MeetsSealing};
 
 mod asserted;
 mod fail;
@@ -47,6 +47,17 @@ pub fn opens_to_one()
 /// Computing finds the payload that a record opens to, and none where it opens to none.
 pub fn payload_is_computed()
     ensures { PayloadIsComputed }
+{}
+
+/// What [`unseal`] answers is the payload that is computed, or a refusal where there is none.
+pub fn unseals_as_computed()
+    ensures { UnsealsAsComputed }
+{}
+
+/// All that a store asks of what seals and opens holds of these seals. The value that shows it is `record_sealing` of
+/// `proofs/StoreSealing.antt`, from which a store is made.
+pub fn meets_sealing()
+    ensures { MeetsSealing }
 {}
 
 #[cfg(test)]

@@ -1,8 +1,10 @@
 //! What a record will weigh.
 
-ghost use Rattle.std.specs.Prelude.{◌≡◌, ◌≤◌, ℕ, List, length};
+ghost use Rattle.std.specs.Prelude.{◌≡◌, ◌+◌, ◌≤◌, ℕ, List, length};
+ghost use Rattle.record_rules.specs.Limits.{fixed_weight};
 ghost use Rattle.record_rules.specs.Records.{record_weight};
 ghost use Rattle.step_rules.specs.Store.{sealed_record};
+ghost use Rattle.record_seal.specs.SealLengths.{sealed_text_length, key_text_length};
 ghost use Rattle.record_seal.specs.Seals.{seal_of};
 ghost use Rattle.record_seal.specs.Seen.{head_seen};
 
@@ -23,9 +25,11 @@ const TOKEN_FRAME_BYTES: usize = 64;
 /// the key, the random bytes and the time. `payload_len` is at most 1,048,582. It takes no memory.
 pub fn sealed_weight(head: &Head, payload_len: u64) -> u64
     requires { payload_len ≤ 1048582 }
-    ensures { (key payload random : List ℕ) (now : ℕ) → length payload ≡ payload_len → length random ≡ 96
+    ensures weight { (key payload random : List ℕ) (now : ℕ) → length payload ≡ payload_len → length random ≡ 96
         → result ≡ record_weight (sealed_record (head_seen head.now) now
         (seal_of key (head_seen head.now) payload random)) }
+    ensures lengths { result ≡ fixed_weight + length head.now.version + length head.now.tag
+        + sealed_text_length payload_len + key_text_length }
 {
     let message = base64url_len(payload_len as usize) + MESSAGE_FRAME_BYTES;
     let token = TOKEN_HEADER_BYTES + base64url_len(TOKEN_FRAME_BYTES + message);

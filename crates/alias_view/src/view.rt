@@ -8,9 +8,13 @@ ghost use Rattle.view_rules.specs.Views.{ShowsAlias};
 ghost use Rattle.view_rules.specs.Standing.{value_of};
 ghost use Rattle.latest_values.specs.Settings.{said_of};
 ghost use Rattle.alias_view.specs.Aliases.{IsReady, KeepsRooms, Means};
+ghost use Rattle.std.specs.Prelude.{◌≤◌};
+ghost use Rattle.view_rules.specs.Answers.{AliasListAnswer};
+ghost use Rattle.latest_values.specs.Lists.{items_seen};
 
-use latest_values::{LatestValues, Setting};
+use latest_values::{LatestValues, Setting, Showing};
 use plain_types::{NoMemory, Text};
+use record_model::NamedTexts;
 use std::alloc::Global;
 use std::marker::Model;
 
@@ -103,5 +107,22 @@ impl AliasView {
         ensures shown { (changes : List Change) (value : List ℕ) → Means self.now changes → HaveDistinctPlaces changes → (option_map (λ t. t.now) result ≡ Some value) ↔ ShowsAlias changes name.now value }
     {
         self.names.get(name)
+    }
+
+    /// The names above `after` by their bytes that stand for values, each with its value, in rising order, as many of the
+    /// first as one reply may show: at most `limit`, which is at least 1, and of several at most 4,194,304 bytes together.
+    /// The empty `after` stands below every name, the empty one included.
+    ///
+    /// # Errors
+    ///
+    /// [`NoMemory`].
+    pub fn list(&self, alloc: Global, after: &[u8], limit: u32) -> Result<NamedTexts, NoMemory>
+        requires { 1 ≤ limit }
+        ensures { IfOk result (λ page. (changes : List Change) → Means self.now changes → HaveDistinctPlaces changes → AliasListAnswer changes after.now limit (items_seen page)) }
+    {
+        let items = self
+            .names
+            .list(alloc, after, limit, Showing::NamesWithValues)?;
+        Ok(NamedTexts::from_vec(items))
     }
 }

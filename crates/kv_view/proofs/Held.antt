@@ -12,7 +12,6 @@ use Rattle.std.proofs.lemmas.Cmp.{nat_list_cmp_total}
 use Rattle.std.proofs.lemmas.Map.{lookup-set_value}
 use Rattle.std.proofs.lemmas.Map.Text.{is_eq-slice_cmp}
 use Rattle.std.proofs.lemmas.Slice.Eq.{bytes_eq-Decides}
-use Rattle.payload_rules.specs.Payloads.{Payload}
 use Rattle.view_rules.specs.Changes.{Change, HaveDistinctPlaces}
 use Rattle.view_rules.specs.Views.{of_key, ShowsKv}
 use Rattle.view_rules.specs.Standing.{Setting, later, setting_of, after_saying, last_said, value_of}
@@ -20,7 +19,12 @@ use Rattle.view_rules.proofs.Settings.{shown_from}
 use Rattle.view_rules.proofs.Ones.{key_shown}
 use Rattle.latest_values.specs.Settings.{Places, has_name, said_of, KeepsNames}
 use Rattle.latest_values.proofs.Placed.{seen, looked, place_put}
-use Rattle.kv_view.specs.Pairs.{Pairs, keys_of, has_pair, said_in, KeepsPairs, Means, payload_for}
+use Rattle.view_rules.specs.Answers.{Named, IsKey, IsListOf, KvListAnswer}
+use Rattle.record_model.specs.declared.names.NamedText.{NamedText}
+use Rattle.latest_values.specs.declared.listing.Showing.TheVariants.{NamesAlone}
+use Rattle.latest_values.specs.Lists.{IsThere, items_seen}
+use Rattle.latest_values.proofs.Rising.{without_value, names_alone, list_along}
+use Rattle.kv_view.specs.Pairs.{Pairs, keys_of, has_pair, said_in, KeepsPairs, Means, payload_for, keys_listed}
 
 abbrev at : List ℕ → List ℕ → Bool
 at q = is_at (slice_cmp nat_cmp q)
@@ -131,3 +135,21 @@ shows pairs changes namespace key value o is means own =
       λ e. shown_from (of_key namespace key) changes value (sym said ∙ e),
       λ shown. said ∙ key_shown changes own namespace key value shown,
     )
+
+-- ---- lists of keys
+
+pub keys_there : (pairs : Pairs) (changes : List Change) (namespace : List ℕ) → Means pairs changes → HaveDistinctPlaces changes → (item : Named) → IsThere NamesAlone (keys_of pairs namespace) item ↔ IsKey changes namespace item
+keys_there pairs changes namespace means own item = (
+  λ there. (ap (λ (i : Named). i.value) there.2, (there.0, (shows pairs changes namespace item.name there.0 (value_of (said_in pairs namespace item.name)) refl means own).0 there.1)),
+  λ key. (key.1.0, (shows pairs changes namespace item.name key.1.0 (value_of (said_in pairs namespace item.name)) refl means own).1 key.1.1, λ i. record { name = item.name; value = key.0 i }),
+)
+
+keys_of_items : (items : List NamedText) → map (λ (key : List ℕ). record { name = key; value = [] }) (map (λ (item : NamedText). item.name) items) ≡ map without_value (items_seen items)
+keys_of_items [] = refl
+keys_of_items (i ∷ items) = ap (λ (is : List Named). record { name = i.name; value = [] } ∷ is) (keys_of_items items)
+
+pub lists : (pairs : Pairs) (namespace after : List ℕ) (limit : ℕ) (items : List NamedText) (names : List (List ℕ)) → names ≡ map (λ (item : NamedText). item.name) items → IsListOf (IsThere NamesAlone (keys_of pairs namespace)) after limit (items_seen items)
+    → (changes : List Change) → Means pairs changes → HaveDistinctPlaces changes → KvListAnswer changes namespace after limit (keys_listed names)
+lists pairs namespace after limit items names is listed changes means own =
+    let same : keys_listed names ≡ items_seen items = ap keys_listed is ∙ keys_of_items items ∙ names_alone (keys_of pairs namespace) after limit (items_seen items) listed in
+    list_along after limit (keys_listed names) (keys_there pairs changes namespace means own) (subst (λ (is : List Named). IsListOf (IsThere NamesAlone (keys_of pairs namespace)) after limit is) (sym same) listed)

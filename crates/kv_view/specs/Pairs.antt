@@ -1,5 +1,5 @@
 -- What is kept of keys, and what it means.
-use Rattle.std.specs.Prelude.{◌≡◌, ℕ, List, [], Option, None, Some, Bool, true, ◌&&◌}
+use Rattle.std.specs.Prelude.{◌≡◌, ℕ, List, [], map, Option, None, Some, Bool, true}
 use Rattle.std.specs.Option.{unwrap_or, is_some}
 use Rattle.std.specs.Map.{lookup}
 use Rattle.std.specs.BTreeMap.{is_at}
@@ -8,6 +8,7 @@ use Rattle.std.specs.Ordering.{nat_cmp}
 use Rattle.payload_rules.specs.Payloads.{Payload, KvSet, KvDelete}
 use Rattle.view_rules.specs.Changes.{Change}
 use Rattle.view_rules.specs.Views.{of_key}
+use Rattle.view_rules.specs.Answers.{Named}
 use Rattle.view_rules.specs.Standing.{Setting, last_said}
 use Rattle.latest_values.specs.Settings.{Places, has_name, said_of}
 use Rattle.kv_view.specs.declared.view.Room.{Room}
@@ -52,3 +53,7 @@ pub record IsReady (pairs : Pairs) (room : Room) (payload : Payload) : Type 0 wh
 -- each room that was ready is so still
 abbrev pub KeepsRooms : (old new : Pairs) → Type 0
 KeepsRooms old new = (room : Room) (payload : Payload) → IsReady old room payload → IsReady new room payload
+
+-- keys as a list shows them, without their values
+abbrev pub keys_listed : List (List ℕ) → List Named
+keys_listed keys = map (λ (key : List ℕ). record { name = key; value = [] }) keys

@@ -4,10 +4,15 @@ ghost use Rattle.std.specs.Prelude.{◌≡◌, ℕ, List, [], true, false, cond,
 ghost use Rattle.std.specs.Option.{option_map};
 ghost use Rattle.view_rules.specs.Standing.{later, value_of};
 ghost use Rattle.latest_values.specs.Settings.{setting_seen};
-ghost use Rattle.kv_view.specs.Pairs.{has_space, has_pair, said_in, KeepsPairs};
+ghost use Rattle.kv_view.specs.Pairs.{has_space, has_pair, keys_of, said_in, KeepsPairs};
+ghost use Rattle.std.specs.Prelude.{◌≤◌, ◌<◌, ◌^◌, length};
+ghost use Rattle.view_rules.specs.Answers.{IsListOf};
+ghost use Rattle.latest_values.specs.Lists.{IsText, IsThere, items_seen};
+ghost use Rattle.latest_values.specs.declared.listing.Showing.TheVariants.{NamesAlone};
 
-use latest_values::{LatestValues, Setting};
+use latest_values::{LatestValues, Setting, Showing};
 use plain_types::{NoMemory, Text};
+use record_model::NamedText;
 use std::alloc::Global;
 use std::collections::BTreeMap;
 
@@ -62,7 +67,8 @@ pub fn make_key(
     namespace: &[u8],
     key: &[u8],
 ) -> Result<Vec<u8>, NoMemory>
-    requires { has_space (map (λ e. (e.0.items, e.1)) spaces.old.entries) namespace.now ≡ true }
+    requires space { has_space (map (λ e. (e.0.items, e.1)) spaces.old.entries) namespace.now ≡ true }
+    requires text { IsText key.now }
     ensures key { IfOk result (λ own. own.items ≡ key.now) }
     ensures made { IfOk result (λ _. has_pair (map (λ e. (e.0.items, e.1)) spaces.new.entries) namespace.now key.now ≡ true) }
     ensures keeps { KeepsPairs (map (λ e. (e.0.items, e.1)) spaces.old.entries) (map (λ e. (e.0.items, e.1)) spaces.new.entries) }
@@ -94,4 +100,36 @@ pub fn get<'a>(spaces: &'a Spaces, namespace: &[u8], key: &[u8]) -> Option<&'a T
         Some(names) => names.get(key),
         None => None,
     }
+}
+
+/// The keys of the namespace above `after` that have values, in rising order, as many as one reply may show.
+///
+/// # Errors
+///
+/// [`NoMemory`].
+pub fn list(
+    spaces: &Spaces,
+    alloc: Global,
+    namespace: &[u8],
+    after: &[u8],
+    limit: u32,
+) -> Result<Vec<NamedText>, NoMemory>
+    requires { 1 ≤ limit }
+    ensures { IfOk result (λ page. IsListOf (IsThere NamesAlone (keys_of (map (λ e. (e.0.items, e.1)) spaces.now.entries) namespace.now)) after.now limit (items_seen page.items)) }
+{
+    match spaces.get(namespace) {
+        Some(names) => names.list(alloc, after, limit, Showing::NamesAlone),
+        None => Ok(Vec::new(alloc)),
+    }
+}
+
+/// The names of the items.
+///
+/// # Errors
+///
+/// [`NoMemory`].
+pub fn names_of(alloc: Global, items: Vec<NamedText>) -> Result<Vec<Text>, NoMemory>
+    ensures { IfOk result (λ names. names.items ≡ map (λ item. item.name) items.items) }
+{
+    Ok(items.into_iter().map(|item| item.name).collect(alloc)?)
 }

@@ -6,11 +6,14 @@ ghost use Rattle.payload_rules.specs.Payloads.{Payload, KvSet, KvDelete};
 ghost use Rattle.view_rules.specs.Changes.{Change, HaveDistinctPlaces};
 ghost use Rattle.view_rules.specs.Views.{ShowsKv};
 ghost use Rattle.view_rules.specs.Standing.{value_of};
-ghost use Rattle.kv_view.specs.Pairs.{said_in, IsReady, KeepsRooms, Means};
+ghost use Rattle.kv_view.specs.Pairs.{said_in, IsReady, KeepsRooms, Means, keys_listed};
+ghost use Rattle.std.specs.Prelude.{◌≤◌};
+ghost use Rattle.view_rules.specs.Answers.{KvListAnswer};
 
-use crate::spaces::{Spaces, add, get, make_key, make_space};
+use crate::spaces::{Spaces, add, get, list, make_key, make_space, names_of};
 use latest_values::Setting;
 use plain_types::{NoMemory, Text};
+use record_model::Texts;
 use std::alloc::Global;
 use std::collections::BTreeMap;
 use std::marker::Model;
@@ -132,5 +135,27 @@ impl KvView {
         ensures shown { (changes : List Change) (value : List ℕ) → Means self.now changes → HaveDistinctPlaces changes → (option_map (λ t. t.now) result ≡ Some value) ↔ ShowsKv changes namespace.now key.now value }
     {
         get(&self.spaces, namespace, key)
+    }
+
+    /// The keys of the namespace above `after` by their bytes that have values, in rising order, as many of the first as
+    /// one reply may show: at most `limit`, which is at least 1, and of several at most 4,194,304 bytes together. The empty
+    /// `after` stands below every key, the empty one included.
+    ///
+    /// # Errors
+    ///
+    /// [`NoMemory`].
+    pub fn names(
+        &self,
+        alloc: Global,
+        namespace: &[u8],
+        after: &[u8],
+        limit: u32,
+    ) -> Result<Texts, NoMemory>
+        requires { 1 ≤ limit }
+        ensures { IfOk result (λ names. (changes : List Change) → Means self.now changes → HaveDistinctPlaces changes → KvListAnswer changes namespace.now after.now limit (keys_listed names)) }
+    {
+        let items = list(&self.spaces, alloc, namespace, after, limit)?;
+        let names = names_of(alloc, items)?;
+        Ok(Texts::from_vec(names))
     }
 }

@@ -5,7 +5,7 @@ use Rattle.std.specs.Option.{is_some, unwrap_or, option_map}
 use Rattle.std.specs.Map.{lookup}
 use Rattle.std.specs.BTreeMap.{is_at, insert_entry}
 use Rattle.std.specs.Cmp.Lexicographic.{slice_cmp}
-use Rattle.std.specs.Ordering.{nat_cmp, match_ordering, is_eq, is_lt}
+use Rattle.std.specs.Ordering.{nat_cmp, match_ordering, is_eq}
 use Rattle.std.specs.declared.cmp.Ordering.{Ordering}
 use Rattle.std.specs.declared.cmp.Ordering.TheVariants.{Less, Equal, Greater}
 use Rattle.std.proofs.lemmas.Bool.{true≢false}
@@ -17,14 +17,15 @@ use Rattle.view_rules.specs.Standing.{setting_cmp, later, setting_of, after_sayi
 use Rattle.view_rules.specs.Standing as standing
 use Rattle.latest_values.specs.declared.setting.Setting.{Setting}
 use Rattle.latest_values.specs.Settings.{setting_seen, stands_later}
+use Rattle.latest_values.specs.Lists.{IsText, AreTexts}
 
-abbrev at : List ℕ → List ℕ → Bool
+abbrev pub at : List ℕ → List ℕ → Bool
 at q = is_at (slice_cmp nat_cmp q)
 
-at_is : (q k : List ℕ) → at q k ≡ bytes_eq k q
+pub at_is : (q k : List ℕ) → at q k ≡ bytes_eq k q
 at_is q k = is_eq-slice_cmp q k ∙ nat_list_eq_equiv.symm q k
 
-same_text : (a b : List ℕ) → bytes_eq a b ≡ true → a ≡ b
+pub same_text : (a b : List ℕ) → bytes_eq a b ≡ true → a ≡ b
 same_text a b e = (bytes_eq-Decides a b).0 e
 
 text_itself : (a : List ℕ) → bytes_eq a a ≡ true
@@ -115,6 +116,14 @@ module _ {V X : Type 0} (items : V → List ℕ) where
         by : (t : Bool) → bytes_eq (items k) q ≡ t → cond t v (unwrap_or (lookup (at q) (seen es)) v) ≡ unwrap_or (lookup (at q) (seen es)) v
         by true t = sym none ∙ ap (λ (x : List ℕ). unwrap_or (lookup (at x) (seen es)) v) (same_text (items k) q t)
         by false t = refl
+
+-- where the name is a text, all are so still
+pub texts_put : {V : Type 0} (items : V → List ℕ) (es fs : List (V × Option Setting)) (k : V) (v : Option Setting) → fs ≡ insert_entry (λ a b. slice_cmp nat_cmp (items a) (items b)) es k v → IsText (items k) → AreTexts (seen items es) → AreTexts (seen items fs)
+texts_put items es fs k v is text texts q has = by (bytes_eq (items k) q) refl (sym (ap is_some (place_put items es fs k v is q)) ∙ has)
+  where
+    by : (t : Bool) → bytes_eq (items k) q ≡ t → is_some (cond t (Some v) (lookup (at q) (seen items es))) ≡ true → IsText q
+    by true t has = subst IsText (same_text (items k) q t) text
+    by false t has = texts q has
 
 -- where no place was made nothing was said
 pub nothing_held : {S : Type 0} (o : Option (Option S)) → is_some o ≡ false → unwrap_or o None ≡ None

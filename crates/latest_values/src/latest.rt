@@ -4,10 +4,15 @@ ghost use Rattle.std.specs.Prelude.{◌≡◌, ℕ, List, [], true, cond, IfOk, 
 ghost use Rattle.std.specs.Option.{option_map};
 ghost use Rattle.view_rules.specs.Standing.{later, value_of};
 ghost use Rattle.latest_values.specs.Settings.{setting_seen, has_name, said_of, KeepsNames};
+ghost use Rattle.latest_values.specs.Lists.{IsText, IsThere, items_seen};
+ghost use Rattle.view_rules.specs.Answers.{IsListOf};
+ghost use Rattle.std.specs.Prelude.{◌≤◌};
 
+use crate::listing::{Showing, list};
 use crate::names::{Names, fill, held, is_latest, make};
 use crate::setting::Setting;
 use plain_types::{NoMemory, Text};
+use record_model::NamedText;
 use std::alloc::Global;
 use std::collections::BTreeMap;
 use std::marker::Model;
@@ -25,6 +30,10 @@ impl Model for LatestValues {
     ghost Value = { Places };
 
     ghost view = { λ v. map (λ e. (e.0.items, e.1)) v.names.entries };
+
+    ghost use Rattle.latest_values.specs.Lists.{AreTexts};
+
+    ghost invariant = { λ v. AreTexts (map (λ e. (e.0.items, e.1)) v.names.entries) };
 }
 
 impl LatestValues {
@@ -37,12 +46,13 @@ impl LatestValues {
         }
     }
 
-    /// Makes a place for the name, and gives the name's own copy that `add` wants.
+    /// Makes a place for the name, which is a text, and gives the name's own copy that `add` wants.
     ///
     /// # Errors
     ///
     /// [`NoMemory`]. Nothing else was said of any name.
     pub fn reserve(&mut self, alloc: Global, name: &[u8]) -> Result<Vec<u8>, NoMemory>
+        requires { IsText name.now }
         ensures name { IfOk result (λ own. own.items ≡ name.now) }
         ensures made { IfOk result (λ _. has_name self.new name.now ≡ true) }
         ensures keeps { KeepsNames self.old self.new }
@@ -74,5 +84,25 @@ impl LatestValues {
             Some(setting) => setting.said.as_ref(),
             None => None,
         }
+    }
+
+    /// The names above `after` by their bytes that have values, in rising order, as many of the first as one reply may
+    /// show: at most `limit`, which is at least 1, and of several at most 4,194,304 bytes together. The empty `after`
+    /// stands below every name, the empty one included.
+    ///
+    /// # Errors
+    ///
+    /// [`NoMemory`].
+    pub fn list(
+        &self,
+        alloc: Global,
+        after: &[u8],
+        limit: u32,
+        showing: Showing,
+    ) -> Result<Vec<NamedText>, NoMemory>
+        requires { 1 ≤ limit }
+        ensures { IfOk result (λ page. IsListOf (IsThere showing self.now) after.now limit (items_seen page.items)) }
+    {
+        list(&self.names, alloc, after, limit, showing)
     }
 }

@@ -7,8 +7,10 @@
 #![tactic(auto)]
 
 mod latest;
+mod listing;
 mod names;
 mod setting;
 
 pub use latest::LatestValues;
+pub use listing::Showing;
 pub use setting::Setting;

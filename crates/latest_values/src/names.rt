@@ -3,6 +3,7 @@
 ghost use Rattle.std.specs.Prelude.{◌≡◌, ℕ, List, true, cond, OnOk, Some, None, map, bytes_eq};
 ghost use Rattle.std.specs.Option.{option_map};
 ghost use Rattle.latest_values.specs.Settings.{setting_seen, has_name, held_in, said_of, KeepsNames, stands_later};
+ghost use Rattle.latest_values.specs.Lists.{AreTexts, IsText};
 
 use crate::setting::Setting;
 use plain_types::NoMemory;
@@ -18,6 +19,7 @@ pub type Names = BTreeMap<Vec<u8>, Option<Setting>>;
 pub fn make(names: &mut Names, name: Vec<u8>) -> Result<(), NoMemory>
     ensures made { OnOk result (has_name (map (λ e. (e.0.items, e.1)) names.new.entries) name.items ≡ true) }
     ensures keeps { KeepsNames (map (λ e. (e.0.items, e.1)) names.old.entries) (map (λ e. (e.0.items, e.1)) names.new.entries) }
+    ensures texts { IsText name.items → AreTexts (map (λ e. (e.0.items, e.1)) names.old.entries) → AreTexts (map (λ e. (e.0.items, e.1)) names.new.entries) }
     ensures same { (q : List ℕ) → held_in (map (λ e. (e.0.items, e.1)) names.new.entries) q ≡ held_in (map (λ e. (e.0.items, e.1)) names.old.entries) q }
 {
     if !has_place(names, name.as_slice()) {
@@ -38,6 +40,7 @@ fn put_new(names: &mut Names, name: Vec<u8>) -> Result<(), NoMemory>
     requires { held_in (map (λ e. (e.0.items, e.1)) names.old.entries) name.items ≡ None }
     ensures made { OnOk result (has_name (map (λ e. (e.0.items, e.1)) names.new.entries) name.items ≡ true) }
     ensures keeps { KeepsNames (map (λ e. (e.0.items, e.1)) names.old.entries) (map (λ e. (e.0.items, e.1)) names.new.entries) }
+    ensures texts { IsText name.items → AreTexts (map (λ e. (e.0.items, e.1)) names.old.entries) → AreTexts (map (λ e. (e.0.items, e.1)) names.new.entries) }
     ensures same { (q : List ℕ) → held_in (map (λ e. (e.0.items, e.1)) names.new.entries) q ≡ held_in (map (λ e. (e.0.items, e.1)) names.old.entries) q }
 {
     match names.insert(name, None) {
@@ -51,6 +54,7 @@ pub fn fill(names: &mut Names, name: Vec<u8>, setting: Setting)
     requires { has_name (map (λ e. (e.0.items, e.1)) names.old.entries) name.items ≡ true }
     ensures filled { (q : List ℕ) → held_in (map (λ e. (e.0.items, e.1)) names.new.entries) q ≡ cond (bytes_eq name.items q) (Some setting) (held_in (map (λ e. (e.0.items, e.1)) names.old.entries) q) }
     ensures keeps { KeepsNames (map (λ e. (e.0.items, e.1)) names.old.entries) (map (λ e. (e.0.items, e.1)) names.new.entries) }
+    ensures texts { AreTexts (map (λ e. (e.0.items, e.1)) names.old.entries) → AreTexts (map (λ e. (e.0.items, e.1)) names.new.entries) }
 {
     match names.insert(name, Some(setting)) {
         Ok(_) => {}

@@ -1,8 +1,7 @@
-use Rattle.std.proofs.Common.{◌≡◌, ℕ, Vec, Global, [], Option, None, sym, ap, ◌∙◌}
-use Rattle.std.specs.Option.{unwrap_or}
+use Rattle.std.proofs.Common.{ℕ, Vec, Global, None, sym, ap, ◌∙◌}
 use Rattle.std.proofs.lemmas.Bool.{true≢false}
 use Rattle.latest_values.specs.Settings.{Places, setting_seen, has_name}
-use Rattle.kv_view.proofs.Held.{keys_are, keys_here, pairs_kept, pair_said}
+use Rattle.kv_view.proofs.Held.{keys_are, pairs_kept, pair_said}
 use Rattle.kv_view.proofs.spaces.add.Goals as goal
 
 pub add-requires : goal.add-requires

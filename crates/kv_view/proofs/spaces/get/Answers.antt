@@ -1,4 +1,4 @@
-use Rattle.std.proofs.Common.{◌≡◌, ℕ, Vec, Global, None, ap, ◌∙◌}
+use Rattle.std.proofs.Common.{ℕ, Vec, Global, None, ap, ◌∙◌}
 use Rattle.view_rules.specs.Standing.{value_of}
 use Rattle.latest_values.specs.Settings.{Places, said_of}
 use Rattle.kv_view.proofs.Held.{keys_are}

@@ -1,4 +1,4 @@
-use Rattle.std.proofs.Common.{◌≡◌, ℕ, Vec, Global, Option, None, sym, ap, ◌∙◌}
+use Rattle.std.proofs.Common.{ℕ, Vec, Global, None, sym, ap, ◌∙◌}
 use Rattle.std.specs.Option.{is_some}
 use Rattle.std.proofs.lemmas.Bool.{true≢false}
 use Rattle.latest_values.proofs.Placed.{there}
@@ -6,7 +6,7 @@ use Rattle.kv_view.proofs.Held.{pairs_kept, pair_made, pairs_same, if_ok}
 use Rattle.kv_view.proofs.spaces.make_key.Goals as goal
 
 pub unreachable-requires : goal.unreachable-requires
-unreachable-requires c = true≢false (sym c.requires ∙ sym (ap is_some (there (λ (v : Vec ℕ Global). v.items) c.args.namespace.now c.args.spaces.now.entries None c.in-None.ensures.value)))
+unreachable-requires c = true≢false (sym c.requires.space ∙ sym (ap is_some (there (λ (v : Vec ℕ Global). v.items) c.args.namespace.now c.args.spaces.now.entries None c.in-None.ensures.value)))
 
 pub returns-clause-made : goal.returns-clause-made
 returns-clause-made c =

@@ -1,4 +1,4 @@
-use Rattle.std.proofs.Common.{◌≡◌, ℕ, Vec, Global, Option, Some, None, ap, ◌∙◌}
+use Rattle.std.proofs.Common.{ℕ, Vec, Global, Option, Some, None, ap, ◌∙◌}
 use Rattle.std.specs.Option.{unwrap_or}
 use Rattle.latest_values.specs.declared.setting.Setting.{Setting}
 use Rattle.latest_values.proofs.Placed.{there}

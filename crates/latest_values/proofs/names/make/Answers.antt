@@ -1,5 +1,4 @@
-use Rattle.std.proofs.Common.{◌≡◌, ℕ, List, Vec, Global, map, Option, sym, ap, ◌∙◌}
-use Rattle.latest_values.specs.declared.setting.Setting.{Setting}
+use Rattle.std.proofs.Common.{ℕ, List, Vec, Global, sym, ap, ◌∙◌}
 use Rattle.latest_values.specs.Settings.{has_name}
 use Rattle.latest_values.proofs.Placed.{seen, nothing_held}
 use Rattle.latest_values.proofs.names.make.Goals as goal

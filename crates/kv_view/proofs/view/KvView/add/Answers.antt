@@ -1,6 +1,4 @@
-use Rattle.std.proofs.Common.{◌≡◌, ℕ, List, Vec, Global, sym, ap, subst, ◌∙◌}
-use Rattle.payload_rules.specs.Payloads.{Payload}
-use Rattle.view_rules.specs.Changes.{Change}
+use Rattle.std.proofs.Common.{ℕ, List, Vec, Global, sym, ap, subst, ◌∙◌}
 use Rattle.latest_values.proofs.Placed.{seen}
 use Rattle.kv_view.specs.Pairs.{Pairs, Means, payload_for}
 use Rattle.kv_view.proofs.Held.{grows}

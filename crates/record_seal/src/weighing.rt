@@ -1,7 +1,7 @@
 //! What a record will weigh.
 
 ghost use Rattle.std.specs.Prelude.{◌≡◌, ◌+◌, ◌≤◌, ℕ, List, length};
-ghost use Rattle.record_rules.specs.Limits.{fixed_weight};
+ghost use Rattle.definitions.specs.Limits.{fixed_weight};
 ghost use Rattle.record_rules.specs.Records.{record_weight};
 ghost use Rattle.step_rules.specs.Store.{sealed_record};
 ghost use Rattle.record_seal.specs.SealLengths.{sealed_text_length, key_text_length};

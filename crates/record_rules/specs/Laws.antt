@@ -1,11 +1,12 @@
 -- The laws of the journal, of growth and of answers, as statements. Each is the contract of the function of its name.
-use Rattle.std.specs.Prelude.{◌≡◌, ◌≢◌, ℕ, ◌+◌, ◌<◌, ◌≤◌, ◌⊎◌, ◌&&◌, not, List, [], ◌∷◌, ◌++◌, length, map, filter, take, drop, min, All, None, Ok, Err, if◌then◌else◌}
+use Rattle.std.specs.Prelude.{◌≡◌, ◌≢◌, ℕ, ◌+◌, ◌<◌, ◌≤◌, ◌⊎◌, ◌↔◌, ◌&&◌, not, true, List, [], ◌∷◌, ◌++◌, length, map, filter, take, drop, min, All, None, Ok, Err, if◌then◌else◌}
 use Rattle.definitions.specs.Limits.{most_page_records, most_page_weight}
 use Rattle.definitions.specs.Pages.{IsLongestWithin}
 use Rattle.record_rules.specs.Records.{SealedRecord, Caller, Entry, Event, Taken, record_weight, page_weight}
-use Rattle.record_rules.specs.Journal.{own, own_events, records_of, in_place, chain, IsNumbered, ChainCount, TotalsFit, held_of, held, running, Ascends, status, count_at, Sound, MayFollow}
+use Rattle.record_rules.specs.Journal.{own, own_events, records_of, in_place, chain, IsNumbered, ChainCount, TotalsFit, held_of, held, running, Ascends, status, count_at, SoundEvents, Sound, MayComeNext, MayFollow}
 use Rattle.record_rules.specs.OneMore.{own_with, chain_with, running_with, held_with}
 use Rattle.definitions.specs.Prefixes.{IsPrefix}
+use Rattle.record_rules.specs.Deciding.{may_come, may_all_come}
 use Rattle.record_rules.specs.Growth.{PageRefusal, PageTooLong, PageForked, same_place, is_fresh, IsHeld, GoOn, taken_entry, fresh_of, wanted_idx, first_too_long, batch_or, grow, grown}
 use Rattle.record_rules.specs.InTurn.{nothing_taken, take_records, batch_of}
 use Rattle.record_rules.specs.Answers.{page, OwnerRequest, reply_to, OwnerAsked, replies, asked_by, told_to}
@@ -84,6 +85,16 @@ WantedWithOne = (owned : List Event) (page : List SealedRecord) (r next : Sealed
 -- a page taken record by record is the growth that is told of it as a whole
 abbrev pub GrowthIsInTurn : Type 0
 GrowthIsInTurn = (journal : List Entry) (caller : Caller) (owner : ℕ) (records : List SealedRecord) → batch_of caller owner (take_records owner (own_events journal owner) nothing_taken records) ≡ grow journal caller owner records
+
+-- ---- what computing tells
+
+-- an event may be the next one exactly where computing says so
+abbrev pub MayComeIsTold : Type 0
+MayComeIsTold = (events : List Event) (host : ℕ) (event : Event) → (may_come events host event ≡ true) ↔ MayComeNext events host event
+
+-- and events may come next, one behind the other, exactly where all are sound then
+abbrev pub SoundIsTold : Type 0
+SoundIsTold = (before : List Event) (host : ℕ) (events : List Event) → SoundEvents before host → (may_all_come before host events ≡ true) ↔ SoundEvents (before ++ events) host
 
 -- ---- pages
 

@@ -10,7 +10,7 @@
 //! the crate takes what a started command is.
 #![tactic(auto)]
 
-ghost use Rattle.record_rules.specs.Laws.{EmptyIsSound, EntryKeepsSound, SoundEntryFollows, PrefixIsSound, StatusTellsLengths, StatusListsNoEmpty, StatusAscends, LengthsMakeStatus, StatusIsDetermined, OwnWithOne, ChainWithOne, RunningWithOne, HeldWithOne, CountWithOne, FreshWithOne, FreshOfWithOne, WantedWithOne, GrowthIsInTurn, PageIsLongest, GrowthKeepsSound, RefusalLeavesAll, TakenPageFits, NextPageIsTaken, RecordsPastHundred, GrowthExtendsChains, GrowthLeavesOthers, GrowthHoldsPage, RepeatAddsNothing, StandingAddsNothing, RepliesAlike, RepliesAlone, RepliesAsAlone, SliceNeverForks, SliceKeepsPrefix, SliceLeavesOtherChains};
+ghost use Rattle.record_rules.specs.Laws.{EmptyIsSound, EntryKeepsSound, SoundEntryFollows, PrefixIsSound, StatusTellsLengths, StatusListsNoEmpty, StatusAscends, LengthsMakeStatus, StatusIsDetermined, OwnWithOne, ChainWithOne, RunningWithOne, HeldWithOne, CountWithOne, FreshWithOne, FreshOfWithOne, WantedWithOne, MayComeIsTold, SoundIsTold, GrowthIsInTurn, PageIsLongest, GrowthKeepsSound, RefusalLeavesAll, TakenPageFits, NextPageIsTaken, RecordsPastHundred, GrowthExtendsChains, GrowthLeavesOthers, GrowthHoldsPage, RepeatAddsNothing, StandingAddsNothing, RepliesAlike, RepliesAlone, RepliesAsAlone, SliceNeverForks, SliceKeepsPrefix, SliceLeavesOtherChains};
 ghost use Rattle.record_rules.specs.Examples.{WorkedTotals, WorkedLimits, WorkedStatus, WorkedRunning, WorkedPages, WorkedPrefixes, WorkedHundred, WorkedFull, WorkedSound, WorkedUnsound, WorkedOwners};
 
 /// A journal without entries is sound.
@@ -77,6 +77,16 @@ pub fn one_more_record()
     ensures fresh { FreshWithOne }
     ensures fresh_of { FreshOfWithOne }
     ensures wanted { WantedWithOne }
+{}
+
+/// Whether an event may be the next one is told by computing.
+pub fn may_come_is_told()
+    ensures { MayComeIsTold }
+{}
+
+/// So is whether a sound journal stays sound with more events.
+pub fn sound_is_told()
+    ensures { SoundIsTold }
 {}
 
 /// A page taken record by record, as code takes it, is the growth that is told of the whole page.

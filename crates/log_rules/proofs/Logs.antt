@@ -119,7 +119,7 @@ all_push : (batches : List Batch) (batch : Batch) → AllByRecursion IsOpenBatch
 all_push [] batch opened is = (is, tt)
 all_push (first ∷ batches) batch opened is = (opened.0, all_push batches batch opened.1 is)
 
-prefix_more : (form : Form) (prefix : List ℕ) (host : ℕ) (events : List Event) (batch : Batch) → IsLogPrefix form prefix host events → IsOpenBatch batch → IsLogPrefix form (prefix ++ batch_bytes form (length prefix) batch) host (events ++ batch.events)
+pub prefix_more : (form : Form) (prefix : List ℕ) (host : ℕ) (events : List Event) (batch : Batch) → IsLogPrefix form prefix host events → IsOpenBatch batch → IsLogPrefix form (prefix ++ batch_bytes form (length prefix) batch) host (events ++ batch.events)
 prefix_more form prefix host events batch is opened =
     let before = batches_bytes form 32 is.batches in
     let last : batches_bytes form (32 + length before) (batch ∷ []) ≡ batch_bytes form (length prefix) batch =

@@ -1,11 +1,11 @@
 -- Reading a field passes bytes that are there, and changes nothing else.
-use Rattle.std.proofs.Common.{◌≡◌, ℕ, zero, suc, ◌+◌, ◌<◌, ◌≤◌, ◌⊎◌, Bool, true, false, cond, inl, inr, List, [], ◌∷◌, length, drop, Option, Some, None, Result, Ok, Err, refl, sym, ◌∙◌, ap, subst, arith}
+use Rattle.std.proofs.Common.{◌≡◌, ℕ, ◌+◌, ◌≤◌, cond, inl, inr, List, length, drop, Option, Some, None, Result, Ok, Err, sym, ◌∙◌, ap, subst, arith}
 use Rattle.std.specs.Prelude.{nat_lt, nat_le, ◌&&◌, ◌==◌}
 use Rattle.std.proofs.lemmas.Bool.{ltb-false}
 use Rattle.std.proofs.lemmas.List.{length-drop, drop-drop}
 use Rattle.byteorder.specs.Endian.{big_number}
 use Rattle.definitions.specs.Journal.{StartedRecord}
-use Rattle.record_rules.specs.Records.{SealedRecord, Event, Started, Local, Taken}
+use Rattle.record_rules.specs.Records.{SealedRecord, Event, Started}
 use Rattle.log_rules.specs.Reading.{Reading, Stop, Cut, Wrong, Field, ◌>>=◌, ◌&◌, field_as, passed, number_at, text_at, made_record, record_at, made_started, started_at, closes_of, closes_at, event_of, event_at, count_at}
 use Rattle.log_rules.specs.Pieces.{left_by}
 use Rattle.log_rules.proofs.Readers.{bind_ok, ok_is, passed_test, text_was_there}

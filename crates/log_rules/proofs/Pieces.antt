@@ -1,18 +1,14 @@
 -- However a body is cut into pieces, its events are those of the whole body.
-use Rattle.std.proofs.Common.{◌≡◌, ℕ, zero, suc, ◌+◌, ◌⊎◌, Bool, true, false, cond, inl, inr, List, [], ◌∷◌, ◌++◌, length, Option, Some, None, Result, Ok, Err, refl, sym, ◌∙◌, ap, subst, arith, length-append}
-use Rattle.std.specs.Prelude.{◌&&◌, ◌==◌}
-use Rattle.std.proofs.lemmas.Bool.{eqb-true}
-use Rattle.std.proofs.lemmas.Option.{none-some}
-use Rattle.definitions.proofs.Items.{both_true}
+use Rattle.std.proofs.Common.{◌≡◌, ℕ, zero, suc, ◌+◌, List, [], ◌∷◌, ◌++◌, length, Option, Some, None, Result, Ok, Err, refl, sym, ◌∙◌, ap, subst, arith, length-append}
 use Rattle.definitions.specs.Spelling.{IsBytes}
 use Rattle.record_rules.specs.Records.{Event}
 use Rattle.std.specs.List.{flat_map}
 use Rattle.std.specs.Int.{w32, to_be_bytes}
 use Rattle.log_rules.specs.Body.{event_bytes}
-use Rattle.log_rules.specs.Reading.{Reading, Stop, Cut, Wrong, Field, ◌>>=◌, with_more, at_start, count_at, event_at, events_at, body_events_at, whole_body, body_at}
-use Rattle.log_rules.specs.Pieces.{Pieces, no_piece, pushed, left_by, Next, Given, Awaits, Over, Faulty, next_event, next_of, next_by, next_in, is_over, end_fault, HasGivenBy, HasGiven}
+use Rattle.log_rules.specs.Reading.{Reading, Stop, Cut, Wrong, ◌>>=◌, with_more, at_start, count_at, event_at, events_at, body_events_at}
+use Rattle.log_rules.specs.Pieces.{Pieces, no_piece, pushed, left_by, Next, Given, Awaits, Over, Faulty, next_event, next_of, next_by, next_in, HasGivenBy, HasGiven}
 use Rattle.log_rules.proofs.Readers.{bind_ok, ok_is}
-use Rattle.log_rules.proofs.Bodies.{count_field, event_field, events_field}
+use Rattle.log_rules.proofs.Bodies.{count_field, events_field}
 
 -- ---- one event more
 

@@ -135,7 +135,7 @@ made_field A B P Q spell write f make part is has_made same_bytes has_part back 
 
 -- ---- numbers
 
-number_there : (r : Reading) (n : ℕ) → n ≤ length r.rest → number_at n r ≡ Ok (big_number n r.rest, passed n r)
+pub number_there : (r : Reading) (n : ℕ) → n ≤ length r.rest → number_at n r ≡ Ok (big_number n r.rest, passed n r)
 unfolding number_at
 number_there r n long = ap (λ (b : Bool). cond b (Err (Cut r.at)) (done (big_number n r.rest, passed n r))) (le-ltb (length r.rest) n long)
 

@@ -9,6 +9,7 @@ use Rattle.record_rules.specs.Examples.{ls_entry}
 use Rattle.record_rules.specs.Records.{SealedRecord, Entry, Event, Started, Local, Taken}
 use Rattle.log_rules.specs.Reading.{body_at, BodyWrongAt}
 use Rattle.log_rules.specs.Body.{HasEventBytes, event_bytes, body_bytes, IsBatch}
+use Rattle.log_rules.specs.Contents.{LogOf, HeaderWrong, BatchWrong, log_at, store_journal, callers_of}
 use Rattle.log_rules.specs.Log.{Form, batch_digest, current_form, old_form, HasNoHeader, NotALog, IsOldLog, NotOld, header_bytes, batch_bytes, StandsFor, DamagedAt, header_fault}
 
 -- the log of a new store
@@ -162,3 +163,19 @@ pub record WorkedBodyFaults : Type 0 where
   pub too_many : BodyWrongAt (0 ∷ 0 ∷ 0 ∷ 101 ∷ drop 4 ls_body) 0
   pub kind : BodyWrongAt (take 4 ls_body ++ 9 ∷ drop 5 ls_body) 4
   pub long_text : BodyWrongAt (take 29 ls_body ++ 0xff ∷ 0xff ∷ 0xff ∷ 0xff ∷ drop 33 ls_body) 29
+
+-- what is found in the bytes of small logs
+pub record WorkedContents : Type 0 where
+  pub none_yet : log_at current_form (new_log current_form first_id) ≡ LogOf first_id []
+  pub one : log_at current_form (ls_log current_form 1) ≡ LogOf 1 (Started ls ∷ [])
+  -- one byte changed
+  pub changed : log_at current_form (take 70 (ls_log current_form 1) ++ 0x6d ∷ drop 71 (ls_log current_form 1)) ≡ BatchWrong 32
+  pub cut : log_at current_form (take 32 (new_log current_form 1)) ≡ HeaderWrong 32
+  pub other_format : log_at current_form (ls_log old_form 1) ≡ HeaderWrong 0
+  -- an old log, with its gate closed, and with the batch a second time, whose id was started before
+  pub old : log_at old_form (ls_log old_form 1) ≡ LogOf 1 (Started ls ∷ [])
+  pub closed : log_at old_form (ls_log old_form 0) ≡ LogOf 1 []
+  pub repeated : log_at old_form (take 90 (ls_log old_form 1) ++ drop 32 (ls_log old_form 1)) ≡ BatchWrong 90
+  -- a store keeps whose call it was, and of a batch in doubt none yet
+  pub kept : store_journal current_form (callers_of (ls_entry ∷ [])) (ls_log current_form 1) ≡ ls_entry ∷ []
+  pub not_kept : store_journal current_form [] (ls_log current_form 1) ≡ []

@@ -1,5 +1,5 @@
 -- The laws of bodies and logs, as statements. Each is the contract of the function of its name.
-use Rattle.std.specs.Prelude.{◌≡◌, ◌≢◌, ℕ, ◌<◌, ◌≤◌, ◌-◌, ◌^◌, List, ◌∷◌, ◌++◌, length, take, drop, sum_by, Some, None, Ok, Err}
+use Rattle.std.specs.Prelude.{◌≡◌, ◌≢◌, ◌↔◌, ℕ, ◌<◌, ◌≤◌, ◌-◌, ◌^◌, List, ◌∷◌, ◌++◌, length, take, drop, sum_by, Some, None, Ok, Err}
 use Rattle.std.specs.List.{AllByRecursion}
 use Rattle.byteorder.specs.Endian.{big_number}
 use Rattle.definitions.specs.Spelling.{IsBytes}
@@ -7,6 +7,7 @@ use Rattle.record_rules.specs.Records.{Entry, Event, event_weight}
 use Rattle.record_rules.specs.Journal.{events_of, Sound}
 use Rattle.log_rules.specs.Body.{HasEventBytes, event_bytes, body_bytes, IsBatch}
 use Rattle.log_rules.specs.Reading.{Reading, Wrong, with_more, event_at, body_at, BodyWrongAt}
+use Rattle.log_rules.specs.Contents.{Contents, LogOf, log_at, HoldContents, store_journal, callers_of}
 use Rattle.log_rules.specs.Opened.{opened_journal}
 use Rattle.log_rules.specs.Spots.{Spot, BatchAt, EventAt}
 use Rattle.log_rules.specs.Log.{Form, payload_bytes, batch_bytes, IsLogPrefix, StandsFor, HasHeader, HasNoHeader, header_fault, DamagedAt}
@@ -120,3 +121,18 @@ EventStaysWrong = (r : Reading) (more : List ℕ) (place : ℕ) → event_at r �
 -- a body whose first field that can't be read stands at an offset is that of no batch
 abbrev pub WrongIsNoBody : Type 0
 WrongIsNoBody = (bytes : List ℕ) (place : ℕ) (events : List Event) → BodyWrongAt bytes place → IsBatch events → bytes ≡ body_bytes events → ⊥
+
+-- ---- what computing finds
+
+-- What is found in bytes is what they hold, and nothing else: whose log they are and of which events, or where they can't be read.
+abbrev pub LogIsFound : Type 0
+LogIsFound = (form : Form) (bytes : List ℕ) (contents : Contents) → IsBytes bytes → (log_at form bytes ≡ contents) ↔ HoldContents form bytes contents
+
+-- so bytes that stand for a journal are found to be the log of its events
+abbrev pub JournalIsFound : Type 0
+JournalIsFound = (form : Form) (bytes : List ℕ) (host : ℕ) (journal : List Entry) → IsBytes bytes → StandsFor form bytes host journal → log_at form bytes ≡ LogOf host (events_of journal)
+
+-- A store keeps the callers of its journal: with the events that the bytes show they are the journal, whether or not the bytes show a batch that is in doubt
+-- behind it.
+abbrev pub StoreIsShown : Type 0
+StoreIsShown = (form : Form) (bytes : List ℕ) (host : ℕ) (journal more : List Entry) → IsBytes bytes → StandsFor form bytes host (journal ++ more) → store_journal form (callers_of journal) bytes ≡ journal

@@ -1,5 +1,5 @@
 -- A batch's body that comes in pieces: its events are read one by one, each once its bytes are there.
-use Rattle.std.specs.Prelude.{◌≡◌, ℕ, zero, suc, ◌+◌, ◌&&◌, Bool, false, List, [], ◌∷◌, ◌++◌, length, Option, Some, None, Result, Ok, Err, if◌then◌else◌, ◌==◌}
+use Rattle.std.specs.Prelude.{◌≡◌, ℕ, zero, suc, ◌+◌, ◌&&◌, Bool, false, List, [], length, Option, Some, None, Result, Ok, Err, if◌then◌else◌, ◌==◌}
 use Rattle.record_rules.specs.Records.{Event}
 use Rattle.log_rules.specs.Reading.{Reading, Stop, Cut, Wrong, Field, with_more, at_start, count_at, event_at, events_at}
 

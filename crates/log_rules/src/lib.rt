@@ -1,7 +1,8 @@
 //! The words for a log file: what bytes spell which events (`Body`), what bytes stand for which journal,
 //! and which are no log or damaged at an offset (`Log`), how a body is read, and where it can't be
 //! (`Reading`), where a batch and an event stand (`Spots`), what
-//! the entries of a log that is opened are (`Opened`); and the laws that hold of these words alone.
+//! the entries of a log that is opened are (`Opened`), what bytes are found to hold by computing
+//! (`Contents`); and the laws that hold of these words alone.
 //!
 //! A log is a header that names the host, then batches of 1 to 100 events, and last a gate byte 0, which
 //! is closed. A batch is a gate byte that isn't 0, which is open, the length of the body, the body, and its
@@ -17,8 +18,8 @@
 //! as `byteorder` reads it.
 #![tactic(auto)]
 
-ghost use Rattle.log_rules.specs.Laws.{OneEventBegins, OneBodyBegins, OneJournalStands, OpenGateAdds, ClosedGateHides, StandingIsALog, StandingIsWhole, DamagedIsALog, DamagedAtOne, FaultyHeader, StandingHeader, StandingHasHeader, DamagedHasHeader, ReadHeader, FormsApart, OneBatchAt, OneEventAt, LongerKeepsBatch, EventsWeighTheirBytes, LightEventsAreABatch, UnsoundIsDamaged, ReadBody, BodyIsRead, EventStaysRead, EventStaysWrong, WrongIsNoBody};
-ghost use Rattle.log_rules.specs.Examples.{WorkedBodies, WorkedFields, WorkedNewLog, WorkedFirstBatch, WorkedDigests, WorkedBodyFaults};
+ghost use Rattle.log_rules.specs.Laws.{OneEventBegins, OneBodyBegins, OneJournalStands, OpenGateAdds, ClosedGateHides, StandingIsALog, StandingIsWhole, DamagedIsALog, DamagedAtOne, FaultyHeader, StandingHeader, StandingHasHeader, DamagedHasHeader, ReadHeader, FormsApart, OneBatchAt, OneEventAt, LongerKeepsBatch, EventsWeighTheirBytes, LightEventsAreABatch, UnsoundIsDamaged, ReadBody, BodyIsRead, EventStaysRead, EventStaysWrong, WrongIsNoBody, LogIsFound, JournalIsFound, StoreIsShown};
+ghost use Rattle.log_rules.specs.Examples.{WorkedBodies, WorkedFields, WorkedNewLog, WorkedFirstBatch, WorkedDigests, WorkedBodyFaults, WorkedContents};
 
 /// Bytes begin with the spelling of at most one event.
 pub fn one_event_begins()
@@ -153,6 +154,21 @@ pub fn wrong_is_no_body()
     ensures { WrongIsNoBody }
 {}
 
+/// What bytes hold as a log is found by computing.
+pub fn log_is_found()
+    ensures { LogIsFound }
+{}
+
+/// Bytes that stand for a journal are found to be the log of its events.
+pub fn journal_is_found()
+    ensures { JournalIsFound }
+{}
+
+/// The callers of a journal, each with the event that the log's bytes show, are the journal.
+pub fn store_is_shown()
+    ensures { StoreIsShown }
+{}
+
 /// The bytes of a record that was made here and of one that was taken in, and how many events a batch has.
 pub fn worked_bodies()
     ensures { WorkedBodies }
@@ -182,4 +198,10 @@ pub fn worked_digests()
 /// The places at which a body can't be read.
 pub fn worked_body_faults()
     ensures { WorkedBodyFaults }
+{}
+
+/// What is found in the bytes of small logs: whose they are and of which events, or where they can't be
+/// read.
+pub fn worked_contents()
+    ensures { WorkedContents }
 {}

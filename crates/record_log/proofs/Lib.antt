@@ -1,0 +1,4 @@
+pub mod Staging
+pub mod Outcomes
+pub mod Created
+pub mod Sizes

@@ -1,0 +1,4 @@
+pub mod Gates
+pub mod Ready
+pub mod Journals
+pub mod Creating

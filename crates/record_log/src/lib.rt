@@ -1,0 +1,30 @@
+//! The log over a disk: a journal that a crash at any moment leaves as it was, with every batch that was acknowledged and at
+//! most the one under way.
+//!
+//! A [`RecordLog`] is a disk, the host that its header names, and the offset of the closed gate at its end. A batch is made
+//! [`Ready`] and then appended: its bytes and a new closed gate are written behind that gate and synced, and then the gate is
+//! opened and synced. So one byte decides whether the batch counts. Where the second half fails the batch is in doubt: a crash
+//! may leave it or not, and nothing else can be appended before it is settled, by opening the gate once more.
+//!
+//! Contracts see a log as its disk, its host, its gate and what is in doubt; `HasJournal` says that a crash now leaves that
+//! journal alone, and `HasDoubt` that it leaves the journal with the batch in doubt or without it. Both, and what a call
+//! leaves at each moment, hold where the disk tells; over any other disk each call is safe and gives its named answers.
+//!
+//! Still to come: opening a log that stands on a disk, and reading batches and events back.
+//!
+//! Stands on `at_edge` for disks, `log_format` for bytes, and the words of `log_rules` and `crash_rules`.
+#![tactic(auto)]
+
+mod create;
+mod halves;
+mod ready;
+mod record_log;
+mod spots;
+
+pub use create::CreateFail;
+pub use ready::Ready;
+pub use record_log::RecordLog;
+pub use spots::Spot;
+
+#[cfg(test)]
+mod tests;

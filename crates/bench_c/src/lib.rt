@@ -1,8 +1,8 @@
-//! C exports of the hash, the cipher, the comparison of tags and the seals, for measuring alone: nothing stands on this
-//! crate.
+//! C exports of the hash, the cipher, the comparison of tags, the seals and the payloads, for measuring alone: nothing
+//! stands on this crate.
 //!
-//! The model and the promise are those of `blake2b_core`, `xchacha_core`, `paseto_seal` and `record_seal`, on which it
-//! stands: where the lengths are in range an export leaves in its output what the crate's own call gives, and otherwise it
+//! The model and the promise are those of `blake2b_core`, `xchacha_core`, `paseto_seal`, `record_seal` and
+//! `payload_forms`, on which it stands: where the lengths are in range an export leaves in its output what the crate's own call gives, and otherwise it
 //! leaves the output as it was. A slice comes from C as a pointer and a length. What wants memory takes it from the C
 //! library's `malloc`; its parameter `alloc` is no parameter in C.
 #![tactic(auto)]
@@ -15,6 +15,7 @@ use blake2b_core::Blake2b;
 use paseto_seal::same_tag;
 use xchacha_core::xchacha20_xor;
 
+mod payloads;
 mod sealing;
 
 /// The hash of `text` under `key` fills `out` (RFC 7693). `out` has 1 to 64 bytes and the key at most

@@ -1,9 +1,9 @@
 -- What is computed of a record is what it opens to.
-use Rattle.std.proofs.Common.{◌≡◌, ℕ, zero, suc, ◌+◌, ◌-◌, ◌<◌, ◌≤◌, Bool, true, false, cond, nat_lt, nat_le, ◌==◌, List, [], ◌∷◌, ◌++◌, length, take, drop, codes, Option, Some, None, Ok, option_and_then, ◌∙◌, sym, ap, subst, arith, refl}
+use Rattle.std.proofs.Common.{◌≡◌, ℕ, suc, ◌-◌, ◌≤◌, Bool, true, false, cond, nat_lt, nat_le, ◌==◌, List, [], ◌∷◌, ◌++◌, length, take, drop, codes, Option, Some, None, option_and_then, ◌∙◌, sym, ap, subst, arith, refl}
 use Rattle.std.specs.Result.{result_ok}
 use Rattle.std.specs.Str.{bytes_eq, is_utf8}
 use Rattle.std.proofs.lemmas.Bool.{eqb-true, eq-eqb, leb-true, le-leb, lt-ltb, ltb-true}
-use Rattle.std.proofs.lemmas.List.{length-append, length-take, length-drop, take_at, drop_at, take-append-drop}
+use Rattle.std.proofs.lemmas.List.{length-take, length-drop, take_at, drop_at, take-append-drop}
 use Rattle.std.proofs.lemmas.Slice.Eq.{bytes_eq-Decides}
 use Rattle.std.proofs.lemmas.Str.{IsUtf8-from_is_utf8, is_utf8-from_IsUtf8}
 use Rattle.base64.proofs.EngineFacts.{decode_of-encode_of}
@@ -14,13 +14,13 @@ use Rattle.paseto_seal.proofs.Opening as opening
 use Rattle.paseto_seal.proofs.Unwrapping as unwrapping
 use Rattle.paseto_seal.specs.Base64Url.{base64url, Carries}
 use Rattle.paseto_seal.specs.KeyId.{key_id_of}
-use Rattle.paseto_seal.specs.Token.{IsTokenForm, Opens, token_cipher, token_header, token_tag}
-use Rattle.paseto_seal.specs.Wrap.{IsWrapForm, Unwraps, wrap_cipher, wrap_header, wrap_tag}
+use Rattle.paseto_seal.specs.Token.{Opens, token_cipher, token_header, token_tag}
+use Rattle.paseto_seal.specs.Wrap.{Unwraps, wrap_cipher, wrap_header, wrap_tag}
 use Rattle.record_rules.specs.Records.{SealedRecord}
 use Rattle.record_seal.specs.Assertion.{assertion, head_of}
 use Rattle.record_seal.specs.Computing.{are_bytes, bytes_coded, bytes_in, body_behind, message_of_body, key_of_body, json_value, key_wrapped, key_of_value, content_key_of, payload_of_message, payload_by, opened_payload}
 use Rattle.record_seal.specs.Json.{ReadsJson, text_member}
-use Rattle.record_seal.specs.Seals.{IsKeyText, IsMessage, OpensToBytes}
+use Rattle.record_seal.specs.Seals.{IsMessage, OpensToBytes}
 use Rattle.record_seal.specs.Unsealing.{GivesKey}
 use Rattle.record_seal.proofs.OneReading.{gives_of}
 use Rattle.serde_json.specs.Data.{Data}

@@ -1,5 +1,5 @@
 -- How long the texts of a seal are.
-use Rattle.std.proofs.Common.{◌≡◌, ℕ, ◌+◌, ◌*◌, ◌/◌, ◌≤◌, List, [], ◌++◌, length, take, drop, codes, arith, refl, lit≤}
+use Rattle.std.proofs.Common.{◌≡◌, ℕ, ◌+◌, ◌*◌, ◌/◌, ◌≤◌, List, [], ◌++◌, length, take, drop, codes, arith, lit≤}
 use Rattle.std.proofs.lemmas.List.{length-append, length-take, length-drop}
 use Rattle.blake2b_core.specs.Hash.{blake2b}
 use Rattle.paseto_seal.proofs.Base64UrlLaws.{length-base64url}

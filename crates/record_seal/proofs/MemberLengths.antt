@@ -1,5 +1,5 @@
 -- A text in a JSON object is no longer than the object's text.
-use Rattle.std.proofs.Common.{◌≡◌, ℕ, zero, suc, ◌+◌, ◌≤◌, Bool, true, false, cond, List, [], ◌∷◌, length, Option, Some, None, option_and_then, option_map, refl, sym, ap, subst, ◌∙◌, ◌==◌, ◌&&◌, ◌++◌, nat_lt, arith}
+use Rattle.std.proofs.Common.{◌≡◌, ℕ, zero, suc, ◌+◌, ◌≤◌, Bool, true, false, cond, List, [], ◌∷◌, length, Option, Some, None, option_and_then, option_map, refl, sym, ap, subst, ◌∙◌, ◌==◌, ◌&&◌, nat_lt, arith}
 use Rattle.std.specs.Char.{encode_utf8}
 use Rattle.std.proofs.lemmas.List.{length-append}
 use Rattle.std.specs.Ordering.{match_ordering, nat_cmp}

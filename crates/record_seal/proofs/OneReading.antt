@@ -1,5 +1,5 @@
 -- A text has one reading: one value, one wrapped key and one id, one content key, one payload.
-use Rattle.std.proofs.Common.{◌≡◌, ℕ, List, Option, Some, None, codes, ◌∙◌, sym, ap, subst}
+use Rattle.std.proofs.Common.{◌≡◌, ℕ, List, Some, None, codes, ◌∙◌, sym, ap, subst}
 use Rattle.paseto_seal.proofs.Base64UrlLaws.{base64url_same}
 use Rattle.paseto_seal.proofs.Opening.{opens_same}
 use Rattle.paseto_seal.proofs.Unwrapping.{unwraps_same}

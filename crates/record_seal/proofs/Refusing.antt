@@ -1,5 +1,5 @@
 -- What opening a record answers, by what its parts answer.
-use Rattle.std.proofs.Common.{◌≡◌, ℕ, List, Option, Some, None, Ok, Err, Result, codes, ◌∙◌, sym, ap, subst, refl}
+use Rattle.std.proofs.Common.{◌≡◌, ℕ, List, Some, None, Ok, Err, Result, codes, sym, subst, refl}
 use Rattle.base64.specs.GeneralPurpose.{IsBytes}
 use Rattle.paseto_seal.proofs.Opening.{opens_same, opens_form}
 use Rattle.paseto_seal.specs.Base64Url.{base64url}
@@ -19,9 +19,9 @@ use Rattle.record_rules.specs.Records.{SealedRecord}
 use Rattle.record_seal.proofs.OneReading.{member_same, member_missing, key_text_same, names_none, gives_of, opened_by}
 use Rattle.record_seal.specs.Assertion.{assertion, head_of}
 use Rattle.record_seal.specs.Json.{ReadsJson, text_member}
-use Rattle.record_seal.specs.Seals.{IsKeyText, IsMessage, OpensToBytes}
+use Rattle.record_seal.specs.Seals.{IsKeyText, IsMessage}
 use Rattle.record_seal.specs.Seen.{token_refused, wrap_refused, text_refused}
-use Rattle.record_seal.specs.Unsealing.{NamesOther, GivesKey, ReadsKey, ReadsMessage, Unseals}
+use Rattle.record_seal.specs.Unsealing.{GivesKey, ReadsKey, ReadsMessage, Unseals}
 use Rattle.record_seal.specs.declared.fail.SealFail.{SealFail}
 use Rattle.record_seal.specs.declared.fail.SealFail.TheVariants.{WrongKey, BadSeal, NoMemory}
 use Rattle.serde_json.specs.Data.{Data}

@@ -1,6 +1,6 @@
 -- What is sealed opens: its texts are read as JSON again, and its key and its message come out of them.
-use Rattle.std.proofs.Common.{◌≡◌, ℕ, ◌+◌, ◌≤◌, List, [], ◌∷◌, ◌++◌, length, take, drop, codes, Some, option_and_then, ◌∙◌, sym, ap, subst, arith, refl, rules}
-use Rattle.std.specs.Str.{IsAscii, IsUtf8}
+use Rattle.std.proofs.Common.{◌≡◌, ℕ, ◌≤◌, List, [], ◌∷◌, ◌++◌, take, drop, codes, option_and_then, ◌∙◌, sym, ap, subst, arith, refl, rules}
+use Rattle.std.specs.Str.{IsAscii}
 use Rattle.std.proofs.lemmas.List.{append-nil, append_assoc, length-take, length-drop, take-append-drop}
 use Rattle.std.proofs.lemmas.Str.{IsUtf8-from_ascii, IsAscii-append}
 use Rattle.base64.proofs.EngineFacts.{IsAscii-encode_of}
@@ -17,11 +17,8 @@ use Rattle.paseto_seal.proofs.HashLaws.{blake2b_bytes}
 use Rattle.paseto_seal.proofs.Unwrapping.{wrap_body_bytes}
 use Rattle.paseto_seal.specs.Base64Url.{base64url}
 use Rattle.paseto_seal.specs.KeyId.{key_id_header, key_id_of, local_key_text}
-use Rattle.paseto_seal.specs.Token.{Opens, token}
-use Rattle.paseto_seal.specs.Wrap.{Unwraps, wrap, wrap_body, wrap_header}
+use Rattle.paseto_seal.specs.Wrap.{wrap, wrap_body, wrap_header}
 use Rattle.record_seal.proofs.PlainTexts.{escape_base64url, escape_behind}
-use Rattle.record_seal.specs.Assertion.{assertion}
-use Rattle.record_seal.specs.Json.{ReadsJson, text_member}
 use Rattle.record_seal.specs.Laws.{SealOpens}
 use Rattle.record_seal.specs.Seals.{IsKeyText, IsMessage, key_text, message_text}
 use Rattle.serde_json.proofs.OnLiterals.{serde_json_on_literals}

@@ -1,5 +1,5 @@
 -- What seals and opens here, as the one value that a store asks for, with all that has to hold of it.
-use Rattle.std.proofs.Common.{◌≡◌, ℕ, ◌+◌, ◌*◌, ◌≤◌, List, Option, Some, None, Ok, Err, Result, length, codes, ◌∙◌, ap, arith, refl, lit≤}
+use Rattle.std.proofs.Common.{◌≡◌, ℕ, ◌+◌, ◌*◌, ◌≤◌, List, Some, length, codes, arith, lit≤}
 use Rattle.base64.specs.GeneralPurpose.{IsBytes}
 use Rattle.paseto_seal.proofs.Base64UrlLaws.{length-base64url}
 use Rattle.paseto_seal.proofs.Opening.{carried_shorter, length-token_body, opens_carries}

@@ -1,4 +1,4 @@
-use Rattle.std.proofs.Common.{◌≡◌, ℕ, ◌+◌, ◌*◌, ◌^◌, List, ◌++◌, length, drop, arith, ap, ap₂, sym, ◌∙◌}
+use Rattle.std.proofs.Common.{ℕ, ◌+◌, ◌*◌, ◌^◌, List, ◌++◌, length, drop, ap, ap₂, ◌∙◌}
 use Rattle.record_seal.specs.Seen.{seal_seen}
 use Rattle.bench_c.specs.Sealing.{sealed}
 use Rattle.bench_c.proofs.sealing.bench_seal.Goals as goal

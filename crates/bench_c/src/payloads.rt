@@ -1,21 +1,20 @@
 //! Reading and writing payloads, for C.
 
-ghost use Rattle.std.specs.Prelude.{◌≡◌, ◌<◌, ◌≤◌, ◌^◌, IfSome, length};
+ghost use Rattle.std.specs.Prelude.{◌≡◌, ◌<◌, ◌^◌};
 ghost use Rattle.payload_forms.specs.Seen.{payload_seen};
 ghost use Rattle.payload_forms.specs.Writing.{text_total};
-ghost use Rattle.bench_c.specs.Payloads.{IsCreation, TellsCreation, TellsLength, TellsWritten};
+ghost use Rattle.bench_c.specs.Payloads.{is_command, TellsCreation, TellsLength, TellsWritten};
 
 use payload_forms::{Payload, read_payload, write_payload};
 use std::alloc::Global;
 
-/// The creation of a command, under tag `history` and version `v0`, or `None` where it isn't one or there is no memory.
-fn creation(alloc: Global, bytes: &[u8]) -> Option<Payload>
-    ensures is { IfSome result (λ payload. IsCreation bytes.now (payload_seen payload)) }
-    ensures short { IfSome result (λ payload. text_total (payload_seen payload) ≤ length bytes.now) }
+/// Whether the payload is a command that ended.
+fn is_creation(payload: &Payload) -> bool
+    ensures { result ≡ is_command (payload_seen payload.now) }
 {
-    match read_payload(alloc, b"history", b"v0", bytes) {
-        Ok(Payload::HistoryCreate(history)) => Some(Payload::HistoryCreate(history)),
-        _ => None,
+    match payload {
+        Payload::HistoryCreate(_) => true,
+        _ => false,
     }
 }
 
@@ -25,9 +24,9 @@ fn creation(alloc: Global, bytes: &[u8]) -> Option<Payload>
 pub extern "C" fn bench_payload_read(alloc: Global, bytes: &[u8]) -> u64
     ensures { TellsCreation bytes.now result }
 {
-    match creation(alloc, bytes) {
-        Some(_) => 1,
-        None => 0,
+    match read_payload(alloc, b"history", b"v0", bytes) {
+        Ok(payload) => { if is_creation(&payload) { 1 } else { 0 } }
+        Err(_) => 0,
     }
 }
 
@@ -51,9 +50,12 @@ pub extern "C" fn bench_payload_write(alloc: Global, bytes: &[u8], times: u64) -
     if bytes.len() >= 1 << 31 {
         return 0;
     }
-    let Some(payload) = creation(alloc, bytes) else {
+    let Ok(payload) = read_payload(alloc, b"history", b"v0", bytes) else {
         return 0;
     };
+    if !is_creation(&payload) {
+        return 0;
+    }
     let mut len = 0;
     for _turn in 0..times {
         len = written_len(alloc, &payload);

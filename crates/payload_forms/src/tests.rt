@@ -29,7 +29,7 @@ const ALIASES: &[u8] = b"dotfiles-shell-alias";
 
 #[test]
 fn what_spells_no_payload_is_unread(rt: HostRuntime) {
-    let refused: [(&[u8], &[u8], &[u8]); 18] = [
+    let refused: [(&[u8], &[u8], &[u8]); 21] = [
         // other versions and tags
         (HISTORY, b"v9", CREATION),
         (HISTORY, b"v1", CREATION),
@@ -47,6 +47,22 @@ fn what_spells_no_payload_is_unread(rt: HostRuntime) {
         (KEYS, b"v0", b"\x93\xa1n\xa1k\xdb\xff\xff\xff\xffv"),
         (KEYS, b"v0", b"\xdd\xff\xff\xff\xff\xa1n\xa1k\xa1v"),
         (HISTORY, b"v0", b"\xcc\x00\xc6\xff\xff\xff\xff\x00"),
+        // a time below 0, a duration of 2^63 and a deletion below 0
+        (
+            HISTORY,
+            b"v0",
+            b"\xcc\x00\xc4\x38\xcd\x00\x00\x99\xd9\x20018bcfe5680070018203040506070809\xff\xcd\x03\xe8\x00\xa2ls\xa1/\xa2s1\xa3h:u\xc0",
+        ),
+        (
+            HISTORY,
+            b"v0",
+            b"\xcc\x00\xc4\x46\xcd\x00\x00\x99\xd9\x20018bcfe5680070018203040506070809\xcf\x17\x97\x9c\xfe\x36\x2a\x00\x00\xcf\x80\x00\x00\x00\x00\x00\x00\x00\x00\xa2ls\xa1/\xa2s1\xa3h:u\xc0",
+        ),
+        (
+            HISTORY,
+            b"v0",
+            b"\xcc\x00\xc4\x40\xcd\x00\x00\x99\xd9\x20018bcfe5680070018203040506070809\xcf\x17\x97\x9c\xfe\x36\x2a\x00\x00\xcd\x03\xe8\x00\xa2ls\xa1/\xa2s1\xa3h:u\xff",
+        ),
         // another number, an id of other digits, and nothing
         (
             HISTORY,

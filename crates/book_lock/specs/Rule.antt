@@ -9,7 +9,7 @@ use Rattle.definitions.specs.Prefixes.{IsPrefix}
 use Rattle.session_rules.specs.Books.{Book}
 use Rattle.book_lock.specs.Views.{unnamed, named, spent, HeldBook, PassView}
 
--- A view that isn't spent has seen the front of the world's entries. Behind that stand no entries of its number.
+-- A view that isn't spent has seen a prefix of the world's entries. Behind that stand no entries of its number.
 pub record ViewFits (world : Book) (next : ℕ) (v : PassView) : Type 0 where
   pub since : List Entry
   pub entries : world.entries ≡ v.pass.seen ++ since

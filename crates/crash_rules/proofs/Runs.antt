@@ -16,7 +16,7 @@ use Rattle.disk_rules.proofs.Calls.{shows_is_left}
 use Rattle.log_rules.specs.Body.{IsBatch}
 use Rattle.log_rules.specs.Log.{Form, payload_bytes, StandsFor}
 use Rattle.crash_rules.specs.Laws.{IsLog, IsImageOf}
-use Rattle.crash_rules.specs.Runs.{entries_in, IsCutBetweenCommits, LogState, CallEnd, Appended, LeftInDoubt, WasSettled, Unchanged, commit_in_doubt, committed, state_after, MayEnd, under_way, LogCall, IsLogRun, last_state, last_history, run_commits}
+use Rattle.crash_rules.specs.Runs.{entries_in, IsCutBetweenCommits, LogState, CallEnd, Appended, LeftInDoubt, WasSettled, Unchanged, commit_in_doubt, committed_by, left_state, MayEnd, under_way, LogCall, IsLogRun, last_state, last_history, run_commits}
 use Rattle.crash_rules.proofs.Crash.{one_of_two, settling_one_of_two}
 use Rattle.crash_rules.proofs.Calls.{settled_may_append}
 
@@ -68,27 +68,27 @@ all_commits state calls = run_commits state calls ++ commit_in_doubt (last_state
 
 -- the same, told of the first call's end and of the calls behind it
 abbrev commits_behind : LogState → List LogCall → CallEnd → List (List Entry)
-commits_behind state calls end = (committed state end ++ run_commits (state_after state end) calls) ++ commit_in_doubt (last_state (state_after state end) calls).doubt
+commits_behind state calls end = (committed_by state end ++ run_commits (left_state state end) calls) ++ commit_in_doubt (last_state (left_state state end) calls).doubt
 
-next_after : (state : LogState) (calls : List LogCall) (more : List Entry) (end : CallEnd) → state.doubt ≡ Some more → MayEnd state end → ((state_after state end).doubt ≡ Some more → BeginsWith (Some more) (all_commits (state_after state end) calls)) → BeginsWith (Some more) (commits_behind state calls end)
+next_after : (state : LogState) (calls : List LogCall) (more : List Entry) (end : CallEnd) → state.doubt ≡ Some more → MayEnd state end → ((left_state state end).doubt ≡ Some more → BeginsWith (Some more) (all_commits (left_state state end) calls)) → BeginsWith (Some more) (commits_behind state calls end)
 next_after state calls more (Appended next) is may later = absurd (none-some more (sym may ∙ is))
 next_after state calls more (LeftInDoubt next) is may later = absurd (none-some more (sym may ∙ is))
-next_after state calls more WasSettled is may later = (all_commits (state_after state WasSettled) calls, ap (λ (d : Option (List Entry)). (commit_in_doubt d ++ run_commits (state_after state WasSettled) calls) ++ commit_in_doubt (last_state (state_after state WasSettled) calls).doubt) is)
+next_after state calls more WasSettled is may later = (all_commits (left_state state WasSettled) calls, ap (λ (d : Option (List Entry)). (commit_in_doubt d ++ run_commits (left_state state WasSettled) calls) ++ commit_in_doubt (last_state (left_state state WasSettled) calls).doubt) is)
 next_after state calls more Unchanged is may later = later is
 
 -- what is in doubt is the next commit, whatever the run does
 doubt_is_next : (form : Form) (host : ℕ) (state : LogState) (old : History) (calls : List LogCall) (more : List Entry) → state.doubt ≡ Some more → IsLogRun form host state old calls → BeginsWith (Some more) (all_commits state calls)
 doubt_is_next form host state old [] more is run = ([], ap commit_in_doubt is)
-doubt_is_next form host state old (call ∷ calls) more is run = next_after state calls more call.end is run.0.may (λ still. doubt_is_next form host (state_after state call.end) call.left calls more still run.1)
+doubt_is_next form host state old (call ∷ calls) more is run = next_after state calls more call.end is run.0.may (λ still. doubt_is_next form host (left_state state call.end) call.left calls more still run.1)
 
 -- so is a batch that is under way
-way_is_next : (state : LogState) (calls : List LogCall) (end : CallEnd) → BeginsWith state.doubt (commits_behind state calls end) → ((more : List Entry) → (state_after state end).doubt ≡ Some more → BeginsWith (Some more) (all_commits (state_after state end) calls)) → BeginsWith (under_way state end) (commits_behind state calls end)
-way_is_next state calls (Appended more) doubted later = (all_commits (state_after state (Appended more)) calls, refl)
+way_is_next : (state : LogState) (calls : List LogCall) (end : CallEnd) → BeginsWith state.doubt (commits_behind state calls end) → ((more : List Entry) → (left_state state end).doubt ≡ Some more → BeginsWith (Some more) (all_commits (left_state state end) calls)) → BeginsWith (under_way state end) (commits_behind state calls end)
+way_is_next state calls (Appended more) doubted later = (all_commits (left_state state (Appended more)) calls, refl)
 way_is_next state calls (LeftInDoubt more) doubted later = later more refl
 way_is_next state calls WasSettled doubted later = doubted
 way_is_next state calls Unchanged doubted later = doubted
 
-after_is : (state : LogState) (end : CallEnd) → (state_after state end).journal ≡ state.journal ++ entries_in (committed state end)
+after_is : (state : LogState) (end : CallEnd) → (left_state state end).journal ≡ state.journal ++ entries_in (committed_by state end)
 after_is state (Appended more) = ap (λ (l : List Entry). state.journal ++ l) (sym (entries_one more))
 after_is state (LeftInDoubt more) = sym (append-nil state.journal)
 after_is state WasSettled = refl
@@ -97,9 +97,9 @@ after_is state Unchanged = sym (append-nil state.journal)
 pub run_ends : (state : LogState) (calls : List LogCall) → (last_state state calls).journal ≡ state.journal ++ entries_in (run_commits state calls)
 run_ends state [] = sym (append-nil state.journal)
 run_ends state (call ∷ calls) =
-    let now = committed state call.end in
-    let later = run_commits (state_after state call.end) calls in
-    run_ends (state_after state call.end) calls ∙ ap (λ (l : List Entry). l ++ entries_in later) (after_is state call.end) ∙ append_assoc state.journal (entries_in now) (entries_in later)
+    let now = committed_by state call.end in
+    let later = run_commits (left_state state call.end) calls in
+    run_ends (left_state state call.end) calls ∙ ap (λ (l : List Entry). l ++ entries_in later) (after_is state call.end) ∙ append_assoc state.journal (entries_in now) (entries_in later)
     ∙ ap (λ (l : List Entry). state.journal ++ l) (sym (entries_more now later))
 
 module _ (form : Form) (host : ℕ) (journal : List Entry) where
@@ -107,8 +107,8 @@ module _ (form : Form) (host : ℕ) (journal : List Entry) where
       → Goes (Images (IsCutBetweenCommits form host journal (commits ++ all_commits state calls))) old (last_history old calls)
   run_cuts state old [] commits is run = goes_nowhere (Images (IsCutBetweenCommits form host journal (commits ++ all_commits state []))) old
   run_cuts state old (call ∷ calls) commits is run =
-      let now = committed state call.end in
-      let after = state_after state call.end in
+      let now = committed_by state call.end in
+      let after = left_state state call.end in
       let all = all_commits state (call ∷ calls) in
       let doubted : BeginsWith state.doubt all = from_doubt state.doubt refl (λ more e. doubt_is_next form host state old (call ∷ calls) more e run) in
       let begins : BeginsWith (under_way state call.end) all = way_is_next state calls call.end doubted (λ more e. doubt_is_next form host after call.left calls more e run.1) in

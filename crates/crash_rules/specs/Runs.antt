@@ -44,18 +44,18 @@ commit_in_doubt None = []
 commit_in_doubt (Some more) = more ∷ []
 
 -- the commits with which a call ended
-abbrev pub committed : LogState → CallEnd → List (List Entry)
-committed state (Appended more) = more ∷ []
-committed state (LeftInDoubt more) = []
-committed state WasSettled = commit_in_doubt state.doubt
-committed state Unchanged = []
+abbrev pub committed_by : LogState → CallEnd → List (List Entry)
+committed_by state (Appended more) = more ∷ []
+committed_by state (LeftInDoubt more) = []
+committed_by state WasSettled = commit_in_doubt state.doubt
+committed_by state Unchanged = []
 
 -- the state afterwards
-abbrev pub state_after : LogState → CallEnd → LogState
-state_after state (Appended more) = record { journal = state.journal ++ more; doubt = None }
-state_after state (LeftInDoubt more) = record { journal = state.journal; doubt = Some more }
-state_after state WasSettled = record { journal = state.journal ++ entries_in (commit_in_doubt state.doubt); doubt = None }
-state_after state Unchanged = state
+abbrev pub left_state : LogState → CallEnd → LogState
+left_state state (Appended more) = record { journal = state.journal ++ more; doubt = None }
+left_state state (LeftInDoubt more) = record { journal = state.journal; doubt = Some more }
+left_state state WasSettled = record { journal = state.journal ++ entries_in (commit_in_doubt state.doubt); doubt = None }
+left_state state Unchanged = state
 
 -- nothing is appended while a batch is in doubt
 abbrev pub MayEnd : LogState → CallEnd → Type 0
@@ -84,12 +84,12 @@ pub record IsLogCall (form : Form) (host : ℕ) (state : LogState) (old : Histor
 -- calls one after another
 abbrev pub IsLogRun : Form → ℕ → LogState → History → List LogCall → Type 0
 IsLogRun form host state old [] = ⊤
-IsLogRun form host state old (call ∷ calls) = IsLogCall form host state old call × IsLogRun form host (state_after state call.end) call.left calls
+IsLogRun form host state old (call ∷ calls) = IsLogCall form host state old call × IsLogRun form host (left_state state call.end) call.left calls
 
 -- the state and the history at the end of a run, and all its commits
 abbrev pub last_state : LogState → List LogCall → LogState
 last_state state [] = state
-last_state state (call ∷ calls) = last_state (state_after state call.end) calls
+last_state state (call ∷ calls) = last_state (left_state state call.end) calls
 
 abbrev pub last_history : History → List LogCall → History
 last_history old [] = old
@@ -97,7 +97,7 @@ last_history old (call ∷ calls) = last_history call.left calls
 
 abbrev pub run_commits : LogState → List LogCall → List (List Entry)
 run_commits state [] = []
-run_commits state (call ∷ calls) = committed state call.end ++ run_commits (state_after state call.end) calls
+run_commits state (call ∷ calls) = committed_by state call.end ++ run_commits (left_state state call.end) calls
 
 -- ---- laws
 

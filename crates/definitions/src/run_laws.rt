@@ -34,7 +34,7 @@ pub fn a_run_leaves_one_journal()
     ensures { (old : List JournalEntry) (payloads : List (List ℕ)) (used : Used) (replies : List PlainReply) (x y : List JournalEntry) → All IsBytes payloads → SoundJournal old → Run old payloads used replies x → Run old payloads used replies y → x ≡ y }
 {}
 
-/// A run keeps the journal that it found at the front of the one that it leaves. From a sound journal, as the empty one,
+/// A run keeps the journal that it found as the beginning of the one that it leaves. From a sound journal, as the empty one,
 /// it leaves a sound one: no id is begun twice or ends twice, and what ended is what was begun. Where readings
 /// have 64 bits and what was drawn are bytes, ids have 128 bits. A refusal leaves the journal as it was, and each reply's
 /// front is the journal's length.

@@ -28,7 +28,7 @@ pub fn what_is_spelled_is_read()
     ensures array { (v : ℕ) (spelled rest : List ℕ) → SpellsArray v spelled → array_at (spelled ++ rest) ≡ Some (v, rest) }
 {}
 
-/// Reading takes nothing else: what it took from the front of the bytes spells the value that it gave.
+/// Reading takes nothing else: what it took from the beginning of the bytes spells the value that it gave.
 pub fn what_is_read_is_spelled()
     ensures integer { (bytes : List ℕ) (v : ℤ) (rest : List ℕ) → IsBytes bytes → integer_at bytes ≡ Some (v, rest) → (spelled : List ℕ) × SpellsInteger v spelled × (bytes ≡ spelled ++ rest) }
     ensures text { (bytes v rest : List ℕ) → IsBytes bytes → text_at bytes ≡ Some (v, rest) → (spelled : List ℕ) × SpellsText v spelled × (bytes ≡ spelled ++ rest) }

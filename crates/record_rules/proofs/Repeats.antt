@@ -12,7 +12,7 @@ use Rattle.record_rules.specs.Records.{SealedRecord, Caller, Entry, Event, Taken
 use Rattle.record_rules.specs.Journal.{own_events, records_of, in_place, chain, limit_passed}
 use Rattle.record_rules.specs.Growth.{PageRefusal, PageForked, PageGap, PageFull, wanted_idx, same_place, holder, is_fresh, IsHeld, fresh_of, too_long_at, first_too_long, forked_by, forked_at, gap_at, full_at, refusal_at, first_refusal, taken_entry, batch_or, grow, grown}
 use Rattle.record_rules.proofs.Options.{option_or-None, option_or_none}
-use Rattle.record_rules.proofs.Spots.{find_where_any, same_spot_itself, holder_is_fresh}
+use Rattle.record_rules.proofs.Spots.{find_where_any, same_place_itself, holder_is_fresh}
 use Rattle.record_rules.proofs.Owned.{records_after}
 
 -- ---- records that stand
@@ -87,7 +87,7 @@ held_or_itself position r (Some other) h =
 stands_after : (owned : List Event) (whole earlier : List SealedRecord) (r : SealedRecord) (page : List SealedRecord) → whole ≡ earlier ++ r ∷ page → forked_at owned earlier r ≡ None → IsHeld (records_of owned ++ fresh_of (records_of owned) whole) r
 stands_after owned whole earlier r page split unforked =
     let records = records_of owned in
-    let found : holder (records_of owned ++ whole) r ≡ option_or (holder (records_of owned ++ earlier) r) (Some r) = ap (λ all. holder (records_of owned ++ all) r) split ∙ ap (λ all. holder all r) (sym (append_assoc (records_of owned) earlier (r ∷ page))) ∙ find-append (same_place r) (records_of owned ++ earlier) (r ∷ page) ∙ ap (λ b. option_or (holder (records_of owned ++ earlier) r) (cond b (Some r) (holder page r))) (same_spot_itself r) in
+    let found : holder (records_of owned ++ whole) r ≡ option_or (holder (records_of owned ++ earlier) r) (Some r) = ap (λ all. holder (records_of owned ++ all) r) split ∙ ap (λ all. holder all r) (sym (append_assoc (records_of owned) earlier (r ∷ page))) ∙ find-append (same_place r) (records_of owned ++ earlier) (r ∷ page) ∙ ap (λ b. option_or (holder (records_of owned ++ earlier) r) (cond b (Some r) (holder page r))) (same_place_itself r) in
     ap (option_map (λ (other : SealedRecord). other.id)) (holder_is_fresh r (records_of owned) whole ∙ found) ∙ held_or_itself (length earlier) r (holder (records_of owned ++ earlier) r) unforked
 
 all_stand_after : (owner : ℕ) (owned : List Event) (whole earlier page : List SealedRecord) → whole ≡ earlier ++ page → first_refusal owner owned earlier page ≡ None → AllByRecursion (IsHeld (records_of owned ++ fresh_of (records_of owned) whole)) page × (first_too_long earlier page ≡ None)

@@ -26,8 +26,8 @@ in_place-from host tag r h = and_from (r.host == host) (bytes_eq r.tag tag) (eq-
 pub in_place_itself : (r : SealedRecord) → in_place r.host r.tag r ≡ true
 in_place_itself r = in_place-from r.host r.tag r (record { host_is = refl; tag_is = refl })
 
-pub same_spot_itself : (r : SealedRecord) → same_place r r ≡ true
-same_spot_itself r = and_from (in_place r.host r.tag r) (r.idx == r.idx) (in_place_itself r) (eq-eqb r.idx r.idx refl)
+pub same_place_itself : (r : SealedRecord) → same_place r r ≡ true
+same_place_itself r = and_from (in_place r.host r.tag r) (r.idx == r.idx) (in_place_itself r) (eq-eqb r.idx r.idx refl)
 
 pub same_place-trans : (r x y : SealedRecord) → same_place r x ≡ true → same_place x y ≡ true → same_place r y ≡ true
 same_place-trans r x y rx xy =

@@ -1,11 +1,16 @@
 -- The examples, computed.
-use Rattle.std.proofs.Common.{◌≡◌, ℕ, false, ◌||◌, cond, inl, inr, Bool, true, List, [], ◌∷◌, ◌++◌, length, Some, None, Result, Ok, Err, refl, sym, ◌∙◌, ap, subst, arith}
+use Rattle.std.proofs.Common.{◌≡◌, ℕ, zero, suc, false, ◌||◌, cond, inl, inr, Bool, true, List, [], ◌∷◌, ◌++◌, length, Some, None, Result, Ok, Err, refl, sym, ◌∙◌, ap, subst, arith}
 use Rattle.std.specs.Prelude.{◌+◌, ◌<◌, ◌≤◌, ◌^◌, pos, nat_lt, codes, take, drop, replicate, bytes_eq, sum_by}
 use Rattle.std.specs.Option.{option_or}
-use Rattle.std.proofs.lemmas.Bool.{eq-eqb, true≢false}
+use Rattle.std.specs.List.{list_all}
+use Rattle.std.proofs.lemmas.Str.{IsUtf8-from_ascii}
+use Rattle.std.proofs.lemmas.Str.Ascii.{IsAscii-nil}
+use Rattle.std.proofs.lemmas.Bool.{eq-eqb, true≢false, ltb-true}
 use Rattle.std.proofs.lemmas.Option.{none-some, same_Some}
 use Rattle.std.proofs.lemmas.List.{append-nil, length-append, length-replicate}
 use Rattle.std.proofs.lemmas.Slice.Eq.{bytes_eq-Decides}
+use Rattle.definitions.specs.Spelling.{IsBytes}
+use Rattle.definitions.proofs.Items.{both_true}
 use Rattle.definitions.specs.Calls.{by_prefix}
 use Rattle.definitions.specs.Journal.{HistoryRecord}
 use Rattle.definitions.specs.Search.{hit_bytes, IsPage, FitsPage}
@@ -16,7 +21,7 @@ use Rattle.std.specs.List.Sorted.{IsPermutation}
 use Rattle.definitions.specs.Step.{Used, used_nothing, read_clock, read_and_drew}
 use Rattle.definitions.specs.Examples.{first_time, ten_bytes, first_id, ls, ls_ended}
 use Rattle.record_rules.specs.Examples.{ls_entry}
-use Rattle.payload_rules.specs.Payloads.{Payload, HistoryCreate, HistoryDelete, KvSet, AliasSet, AliasDelete, version_0, version_text, tag_of, history_tag, payload_version}
+use Rattle.payload_rules.specs.Payloads.{Payload, HistoryCreate, HistoryDelete, KvSet, AliasSet, AliasDelete, version_0, version_text, tag_of, history_tag, payload_version, written_payload}
 use Rattle.definitions.specs.Limits.{most_value_bytes, most_name_bytes, most_page_weight, most_held_weight, most_call_bytes}
 use Rattle.record_rules.specs.Records.{SealedRecord, Caller, Entry, Local, record_weight, event_weight}
 use Rattle.record_rules.specs.Growth.{PageRefusal, PageGap}
@@ -84,6 +89,14 @@ zeros_example = record { host = refl; weight = refl }
 abbrev empty_end : Head
 empty_end = record { id = 0; idx = 0; version = version_text version_0; tag = tag_of (AliasDelete []); host = 1 }
 
+abbrev all_bytes : List ℕ → Bool
+all_bytes bytes = list_all (λ (b : ℕ). nat_lt b 256) bytes
+
+are_bytes : (bytes : List ℕ) → all_bytes bytes ≡ true → IsBytes bytes
+are_bytes [] e i = omega arith
+are_bytes (b ∷ bytes) e zero = ltb-true b 256 (both_true (nat_lt b 256) (all_bytes bytes) e).0
+are_bytes (b ∷ bytes) e (suc i) = are_bytes bytes (both_true (nat_lt b 256) (all_bytes bytes) e).1 i
+
 pub a_store : WorkedStore
 a_store = record {
   seals_well = record { weighs = zeros_weigh; light = zeros_light };
@@ -92,6 +105,9 @@ a_store = record {
   opens_end = λ drawn. refl;
   tells_less = λ well. let told = well.weighs empty_end (AliasDelete []) 0 (replicate 96 0) refl refl refl in omega (arith, told);
   too_heavy = λ well. let light = well.light (AliasDelete []) (omega arith) in omega (arith, light);
+  closed_seals = record { weighs = zeros_weigh; light = zeros_light };
+  never_opens = λ opens.
+      none-some (AliasDelete []) (opens empty_end (AliasDelete []) 0 (replicate 96 0) refl refl tt (record { utf8 = IsUtf8-from_ascii [] IsAscii-nil; short = omega arith }) (are_bytes (written_payload (AliasDelete [])) refl) refl (are_bytes (replicate 96 0) refl));
 }
 
 pub commands : WorkedCommand

@@ -13,6 +13,7 @@ use Rattle.view_rules.specs.Changes.{OpensByTag}
 use Rattle.view_rules.specs.Answers.{Scope, of_all, of_hostname, of_session, of_cwd}
 use Rattle.step_rules.specs.Calls.{Call, start_call, end_call, delete_call, search_call, kv_set_call, kv_delete_call, kv_get_call, kv_list_call, alias_set_call, alias_delete_call, alias_list_call, status_call, long_text, call_bytes, CallFits}
 use Rattle.step_rules.specs.Answers.{too_long, unknown_id, unknown_name, full, random_fault, id_taken, disk_fault, no_memory, began, stored, hits, value_is, keys, aliases, places, refused, Answer, Reply}
+use Rattle.step_rules.specs.Sealing.{OpensItsSeals}
 use Rattle.step_rules.specs.Store.{Head, Seal, KeyedStore, payload_text_bytes, SealsWell}
 use Rattle.step_rules.specs.Step.{start_draft, record_draft, Drafts, draft_place, next_head, draft_answer, Shows, Step}
 use Rattle.step_rules.specs.Turn.{UsedBeforeFailing, Turn}
@@ -90,6 +91,9 @@ pub record WorkedStore : Type 0 where
   -- a store whose records weigh more than it tells, or more than a record may, doesn't seal so
   pub tells_less : SealsWell (record zeros_store { weight_of = λ payload. 568 + length (tag_of payload) + payload_text_bytes payload }) → ⊥
   pub too_heavy : SealsWell (record zeros_store { weight_of = λ payload. 4194305 }) → ⊥
+  -- one whose records open to nothing seals so, but doesn't open what it sealed
+  pub closed_seals : SealsWell (record zeros_store { opens = λ r. None })
+  pub never_opens : OpensItsSeals (record zeros_store { opens = λ r. None }) → ⊥
 
 pub record WorkedCommand : Type 0 where
   pub starts : (store : KeyedStore) → Step store [] (call_of 1) ls_call (read_and_drew first_time ten_bytes) (ls_entry ∷ []) (began first_id)

@@ -29,7 +29,7 @@ pub fn step_numbers_chains()
     ensures { StepNumbersChains }
 {}
 
-/// A step keeps the journal as the front of what it leaves, and adds at most one entry, which has the
+/// A step keeps the journal as the beginning of what it leaves, and adds at most one entry, which has the
 /// caller of the call.
 pub fn step_adds_one()
     ensures { StepAddsOne }
@@ -72,7 +72,7 @@ pub fn turn_tells_front()
     ensures { TurnTellsFront }
 {}
 
-/// A turn keeps the journal as the front of what it leaves.
+/// A turn keeps the journal as the beginning of what it leaves.
 pub fn turn_only_adds()
     ensures { TurnOnlyAdds }
 {}
@@ -87,7 +87,7 @@ pub fn page_turn_keeps_sound()
     ensures { PageTurnKeepsSound }
 {}
 
-/// A turn with a page keeps the journal as the front of what it leaves.
+/// A turn with a page keeps the journal as the beginning of what it leaves.
 pub fn page_turn_only_adds()
     ensures { PageTurnOnlyAdds }
 {}

@@ -7,7 +7,7 @@ use Rattle.view_rules.specs.Answers.{Scope, of_all, of_hostname, of_session, of_
 use Rattle.step_rules.specs.Calls.{Call, start_call, end_call, delete_call, search_call, kv_set_call, kv_delete_call, kv_get_call, kv_list_call, alias_set_call, alias_delete_call, alias_list_call, status_call}
 use Rattle.request_rules.specs.Requests.{call_kinds}
 
--- the argument at this place, from 0, and what it says; where there is none, or one of another kind, nothing of meaning
+-- the argument behind so many others, and what it says; where there is none, or one of another kind, nothing of meaning
 abbrev pub argument_of : ℕ → List Argument → Argument
 argument_of n [] = a_text []
 argument_of zero (a ∷ more) = a

@@ -1,5 +1,7 @@
 pub mod Texts
 pub mod OrderKeys
+pub mod Counting
+pub mod Filtering
 pub mod Meaning
 pub mod Walks
 pub mod Ordering

@@ -4,22 +4,25 @@ use Rattle.std.specs.Prelude.{nat_eq}
 use Rattle.std.specs.Option.{unwrap_or, option_map}
 use Rattle.std.specs.Ordering.{nat_cmp, ordering_then, is_lt}
 use Rattle.definitions.specs.Journal.{HistoryRecord}
-use Rattle.payload_rules.specs.Payloads.{Payload, HistoryCreate}
+use Rattle.payload_rules.specs.Payloads.{Payload, HistoryCreate, HistoryDelete}
 use Rattle.view_rules.specs.Standing.{Created}
 use Rattle.history_view.specs.declared.rows.Creation.{Creation}
 use Rattle.history_view.specs.declared.rows.Held.{Held}
 use Rattle.history_view.specs.declared.room.Room.TheVariants.{Creates, Deletes}
 use Rattle.history_view.specs.Texts.{KeepsTexts}
 use Rattle.history_view.specs.Rows.{text_at, author_of, HasAuthor, command_of, created_of, standing_of, HasTexts, held_after, earlier_row, shown_row}
-use Rattle.history_view.specs.Places.{OrderKey, IsOrderOf, held_in, numbers_for}
-use Rattle.history_view.specs.declared.rows.TextNumbers.{TextNumbers}
-use Rattle.view_rules.specs.Standing.{after_creation, after_payload, earlier, standing}
+use Rattle.history_view.specs.Places.{IsOrderOf, KeepsIds, KeepsKeys, held_in, numbers_for}
+use Rattle.history_view.specs.Counts.{AreCounted, has_number, is_shown}
+use Rattle.std.specs.Prelude.{sum_by}
+use Rattle.std.specs.Map.{values_of}
+use Rattle.view_rules.specs.Standing.{after_creation, after_deletion, after_payload, earlier, standing}
 use Rattle.view_rules.specs.Changes.{Change}
 use Rattle.std.proofs.lemmas.Bool.{eqb-true}
 use Rattle.std.proofs.Common.{eqb, ◌||◌}
 use Rattle.std.specs.Option.{is_some}
 use Rattle.history_view.specs.ViewState.{Means, ViewState, IsSound, standing_in, Steady}
 use Rattle.history_view.specs.Rooms.{KeepsRooms}
+use Rattle.history_view.proofs.Counting.{every, at_part}
 
 -- ---- texts
 
@@ -74,6 +77,8 @@ module _ (old new : ViewState) (s : Steady old new) where
   sound_kept sound = record {
     texts = λ id c at. texts_kept old.texts new.texts s.texts c (sound.texts id c (ap (λ (h : Held). h.first) (sym (s.ids id)) ∙ at));
     order = λ key. s.order key ∙ sound.order key ∙ ap (λ (h : Held). numbers_for key.0.0 (shown_row h)) (sym (s.ids key.1));
+    counted = every (λ part n. at_part s.counts part n ∙ at_part sound.counted part n ∙ sym (s.sums (has_number part n) refl));
+    shown = s.shown ∙ sound.shown ∙ sym (s.sums is_shown refl);
   }
 
   pub standing_kept : IsSound old → (id : ℕ) → standing_in new id ≡ standing_in old id
@@ -108,13 +113,28 @@ module _ (old : ViewState) (sound : IsSound old) (id : ℕ) where
   created_texts c has d e =
       subst (λ (x : Creation). HasTexts old.texts x) (same_some (earlier_row c (held_in old.ids id).first) d e) (grown_texts old.texts c (held_in old.ids id).first has (sound.texts id))
 
-  pub sound_grown : (new : Held) (ids : List (ℕ × Held)) (order : List (OrderKey × Option TextNumbers)) → ((d : Creation) → new.first ≡ Some d → HasTexts old.texts d)
-      → ((q : ℕ) → held_in ids q ≡ cond (nat_eq id q) new (held_in old.ids q)) → IsOrderOf ids order → IsSound (record { texts = old.texts; ids = ids; order = order })
-  sound_grown new ids order has held in_order = record { texts = λ q d e. by q d (nat_eq id q) (sym (ap (λ (h : Held). h.first) (held q)) ∙ e); order = in_order }
+  pub sound_grown : (now : ViewState) (new : Held) → now.texts ≡ old.texts → ((d : Creation) → new.first ≡ Some d → HasTexts old.texts d)
+      → ((q : ℕ) → held_in now.ids q ≡ cond (nat_eq id q) new (held_in old.ids q)) → IsOrderOf now.ids now.order → AreCounted now.counts now.order → now.shown ≡ sum_by is_shown (values_of now.order) → IsSound now
+  sound_grown now new same has held in_order counted shown = record {
+    texts = λ q d e. subst (λ (ts : List (List ℕ)). HasTexts ts d) (sym same) (by q d (nat_eq id q) (sym (ap (λ (h : Held). h.first) (held q)) ∙ e));
+    order = in_order;
+    counted = counted;
+    shown = shown;
+  }
     where
       by : (q : ℕ) (d : Creation) (t : Bool) → (cond t new (held_in old.ids q)).first ≡ Some d → HasTexts old.texts d
       by q d true e = has d e
       by q d false e = sound.texts q d e
+
+-- rooms stay ready where texts are the same and nothing made is lost
+pub rooms_grown : (old new : ViewState) → new.texts ≡ old.texts → KeepsIds old.ids new.ids → KeepsKeys old.order new.order → KeepsRooms old new
+rooms_grown old new same ids keys (Creates id c) payload ready = record {
+  texts = subst (λ (ts : List (List ℕ)). HasTexts ts c) (sym same) ready.texts;
+  has_id = ids id ready.has_id;
+  has_key = keys (record { 0 = c.timestamp }, id) ready.has_key;
+  holds = ready.holds ∙ ap (λ (ts : List (List ℕ)). HistoryCreate (command_of ts id c)) (sym same);
+}
+rooms_grown old new same ids keys (Deletes id) payload ready = record { has_id = ids id ready.has_id; holds = ready.holds }
 
 first_grows : (texts : List (List ℕ)) (id : ℕ) (c : Creation) (o : Option Creation) → option_map (created_of texts id) (Some (earlier_row c o)) ≡ Some (earlier (created_of texts id c) (option_map (created_of texts id) o))
 first_grows texts id c None = refl
@@ -128,13 +148,25 @@ created_grows : (texts : List (List ℕ)) (id : ℕ) (c : Creation) (held : Held
 created_grows texts id c held = ap (λ (o : Option Created). record { dead = held.dead || is_some c.deleted_at; first = o }) (first_grows texts id c held.first)
 
 -- a creation that is placed
-pub means_created : (s : ViewState) (id : ℕ) (placed : Creation) (new : Held) (ids : List (ℕ × Held)) (payload : Payload) (changes : List Change) → new ≡ held_after placed (held_in s.ids id) → ((q : ℕ) → held_in ids q ≡ cond (nat_eq id q) new (held_in s.ids q))
-    → payload ≡ HistoryCreate (command_of s.texts id placed) → Means s changes → (q : ℕ) → standing_of s.texts q (held_in ids q) ≡ after_payload placed.host placed.idx payload q (standing changes q)
-means_created s id placed new ids payload changes new_is held holds means q =
-    ap (standing_of s.texts q) (held q) ∙ by (eqb id q) refl ∙ sym (ap (λ (p : Payload). after_payload placed.host placed.idx p q (standing changes q)) holds)
+pub means_created : (s : ViewState) (texts : List (List ℕ)) → texts ≡ s.texts → (id : ℕ) (placed : Creation) (new : Held) (ids : List (ℕ × Held)) (payload : Payload) (changes : List Change) → new ≡ held_after placed (held_in s.ids id) → ((q : ℕ) → held_in ids q ≡ cond (nat_eq id q) new (held_in s.ids q))
+    → payload ≡ HistoryCreate (command_of s.texts id placed) → Means s changes → (q : ℕ) → standing_of texts q (held_in ids q) ≡ after_payload placed.host placed.idx payload q (standing changes q)
+means_created s texts same id placed new ids payload changes new_is held holds means q =
+    ap (λ (ts : List (List ℕ)). standing_of ts q (held_in ids q)) same ∙ ap (standing_of s.texts q) (held q) ∙ by (eqb id q) refl ∙ sym (ap (λ (p : Payload). after_payload placed.host placed.idx p q (standing changes q)) holds)
   where
     by : (t : Bool) → eqb id q ≡ t → standing_of s.texts q (cond t new (held_in s.ids q)) ≡ cond t (after_creation (created_of s.texts id placed) (standing changes q)) (standing changes q)
     by true t =
         subst (λ (k : ℕ). standing_of s.texts k new ≡ after_creation (created_of s.texts id placed) (standing changes k)) (eqb-true id q t)
         (ap (standing_of s.texts id) new_is ∙ created_grows s.texts id placed (held_in s.ids id) ∙ ap (after_creation (created_of s.texts id placed)) (means id))
+    by false t = means q
+
+-- a deletion that is placed
+pub means_deleted : (s : ViewState) (texts : List (List ℕ)) → texts ≡ s.texts → (host idx id : ℕ) (new : Held) (ids : List (ℕ × Held)) (payload : Payload) (changes : List Change) → new ≡ record { dead = true; first = (held_in s.ids id).first } → ((q : ℕ) → held_in ids q ≡ cond (nat_eq id q) new (held_in s.ids q))
+    → payload ≡ HistoryDelete id → Means s changes → (q : ℕ) → standing_of texts q (held_in ids q) ≡ after_payload host idx payload q (standing changes q)
+means_deleted s texts same host idx id new ids payload changes new_is held holds means q =
+    ap (λ (ts : List (List ℕ)). standing_of ts q (held_in ids q)) same ∙ ap (standing_of s.texts q) (held q) ∙ by (eqb id q) refl ∙ sym (ap (λ (p : Payload). after_payload host idx p q (standing changes q)) holds)
+  where
+    by : (t : Bool) → eqb id q ≡ t → standing_of s.texts q (cond t new (held_in s.ids q)) ≡ cond t (after_deletion (standing changes q)) (standing changes q)
+    by true t =
+        subst (λ (k : ℕ). standing_of s.texts k new ≡ after_deletion (standing changes k)) (eqb-true id q t)
+        (ap (standing_of s.texts id) new_is ∙ ap after_deletion (means id))
     by false t = means q

@@ -47,3 +47,11 @@ pub put_sums : {X : Type 0} (f : X → ℕ) (d : X) (es fs : List (OrderKey × X
 put_sums {X = X} f d es fs key v up has is =
     let old = lookup (is_at (key_cmp key)) es in
     ap (λ (gs : List (OrderKey × X)). sum_by f (values_of gs) + f (unwrap_or old d)) is ∙ ap (λ (n : ℕ). sum_by f (values_of (insert_entry key_cmp es key v)) + n) (sym (some_there f d old has)) ∙ sum_by-insert_entry f totals es key v up
+
+-- nor does an empty place change it, where the key had none
+pub made_sums : {X : Type 0} (f : X → ℕ) (es fs : List (OrderKey × X)) (key : OrderKey) (v : X) → IsStrictlySortedBy key_cmp (keys_of es) → lookup (is_at (key_cmp key)) es ≡ None → fs ≡ insert_entry key_cmp es key v → f v ≡ 0 → sum_by f (values_of fs) ≡ sum_by f (values_of es)
+made_sums {X = X} f es fs key v up none is nothing =
+    let all : sum_by f (values_of (insert_entry key_cmp es key v)) + unwrap_or (option_map f (lookup (is_at (key_cmp key)) es)) 0 ≡ sum_by f (values_of es) + f v = sum_by-insert_entry f totals es key v up in
+    let here : unwrap_or (option_map f (lookup (is_at (key_cmp key)) es)) 0 ≡ 0 = ap (λ (o : Option X). unwrap_or (option_map f o) 0) none in
+    let same : sum_by f (values_of fs) ≡ sum_by f (values_of (insert_entry key_cmp es key v)) = ap (λ (gs : List (OrderKey × X)). sum_by f (values_of gs)) is in
+    omega arith

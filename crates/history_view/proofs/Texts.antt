@@ -1,12 +1,12 @@
 -- Texts that have numbers keep them as others get theirs.
 use Rattle.std.proofs.Common.{◌≡◌, ℕ, zero, suc, List, [], ◌∷◌, ◌++◌, map, Option, Some, None, Bool, true, false, refl, sym, ap, subst, ◌∙◌}
-use Rattle.std.specs.Prelude.{slice_get, Result, Ok, Err, OnOk, OnErr, if◌then◌else◌, nat_eq}
-use Rattle.std.specs.List.{list_any}
+use Rattle.std.specs.Prelude.{slice_get, Result, Ok, Err, OnOk, OnErr, MatchOption, if◌then◌else◌, nat_eq, cond, ◌||◌}
+use Rattle.std.specs.List.{list_any, find}
 use Rattle.std.specs.Cmp.Lexicographic.{pointwise, same_text}
 use Rattle.std.specs.Option.{option_map}
 use Rattle.std.proofs.lemmas.Option.{slice_get-map}
 use Rattle.indexmap.specs.IndexSet.{insert_key}
-use Rattle.history_view.specs.Texts.{KeepsTexts, AreDistinct}
+use Rattle.history_view.specs.Texts.{KeepsTexts, AreDistinct, IsNumberOf}
 use Rattle.std.specs.List.{IsDistinct}
 use Rattle.std.proofs.Common.{arith, get_or, ltb, ◌<◌}
 use Rattle.std.proofs.lemmas.Bool.{true≢false}
@@ -69,3 +69,36 @@ module _ {V : Type 0} (items : V → List ℕ) where
       by true t e f = absurd (not_below ks distinct m n text at there (grind (arith, nat_tests)))
       by false true e f = absurd (not_below ks distinct n m text there at (grind (arith, nat_tests)))
       by false false e f = grind (arith, nat_tests)
+
+-- ---- a text that is looked for
+
+passes_found : {V : Type 0} (p : V → Bool) (xs : List V) (k : V) → Some k ≡ find p xs → p k ≡ true
+passes_found p [] k e = absurd cc
+passes_found {V} p (x ∷ xs) k e = by (p x) refl e (λ f. passes_found p xs k f)
+  where
+    by : (t : Bool) → p x ≡ t → Some k ≡ cond t (Some x) (find p xs) → (Some k ≡ find p xs → p k ≡ true) → p k ≡ true
+    by true t here more = (let same : k ≡ x = cc in ap p same ∙ t)
+    by false t here more = more here
+
+any_at : {V : Type 0} (p : V → Bool) (xs : List V) (n : ℕ) (k : V) → slice_get xs n ≡ Some k → p k ≡ true → list_any p xs ≡ true
+any_at p [] n k at passes = absurd cc
+any_at p (x ∷ xs) zero k at passes = let same : x ≡ k = cc in ap (λ (b : Bool). b || list_any p xs) (ap p same ∙ passes)
+any_at p (x ∷ xs) (suc n) k at passes = by (p x) (any_at p xs n k at passes)
+  where
+    by : (t : Bool) → list_any p xs ≡ true → (t || list_any p xs) ≡ true
+    by true more = refl
+    by false more = more
+
+module _ {V : Type 0} (items : V → List ℕ) where
+  pub there : (ks : List V) (text : List ℕ) (n : ℕ) (k : V) → slice_get ks n ≡ Some k → Some k ≡ find (λ (x : V). pointwise nat_eq text (items x)) ks → slice_get (map items ks) n ≡ Some text
+  there ks text n k at is = slice_get-map items ks n ∙ ap (option_map items) at ∙ ap Some (sym (same_text text (items k) (sym (passes_found (λ (x : V). pointwise nat_eq text (items x)) ks k is))))
+
+  pub not_there : (ks : List V) (text : List ℕ) → false ≡ list_any (λ (x : V). pointwise nat_eq text (items x)) ks → (n : ℕ) → slice_get (map items ks) n ≡ Some text → ⊥
+  not_there ks text none n at =
+      let k = found items (slice_get ks n) text (sym (slice_get-map items ks n) ∙ at) in
+      let same : pointwise nat_eq text (items k.0) ≡ true = ap (pointwise nat_eq text) k.2 ∙ nat_list_eq_equiv.refl text in
+      true≢false (sym (any_at (λ (x : V). pointwise nat_eq text (items x)) ks n k.0 k.1 same) ∙ sym none)
+
+pub number_is : (texts : List (List ℕ)) (text : List ℕ) (o : Option ℕ) → AreDistinct texts → MatchOption o ((n : ℕ) → slice_get texts n ≡ Some text → ⊥) (λ n. slice_get texts n ≡ Some text) → IsNumberOf texts text o
+number_is texts text None distinct is = is
+number_is texts text (Some n) distinct is = (is, λ m at. distinct m n text at is)

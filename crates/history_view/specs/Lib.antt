@@ -1,3 +1,4 @@
+pub mod Counts
 pub mod Texts
 pub mod Rows
 pub mod Places
@@ -6,3 +7,4 @@ pub mod Rooms
 pub mod Walk
 pub mod Shown
 pub mod Laws
+pub mod Buckets

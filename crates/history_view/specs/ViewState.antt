@@ -1,5 +1,6 @@
 -- What a history view holds, and what it means.
-use Rattle.std.specs.Prelude.{◌≡◌, ℕ, List, Option, Some, true}
+use Rattle.std.specs.Prelude.{◌≡◌, ℕ, List, Option, Some, None, true, sum_by}
+use Rattle.std.specs.Map.{values_of}
 use Rattle.payload_rules.specs.Payloads.{Payload, HistoryCreate, HistoryDelete}
 use Rattle.view_rules.specs.Changes.{Change}
 use Rattle.view_rules.specs.Standing.{Standing, standing}
@@ -8,11 +9,15 @@ use Rattle.history_view.specs.declared.rows.TextNumbers.{TextNumbers}
 use Rattle.history_view.specs.declared.rows.Held.{Held}
 use Rattle.history_view.specs.Rows.{standing_of, command_of, HasTexts}
 use Rattle.history_view.specs.Texts.{KeepsTexts}
+use Rattle.history_view.specs.Counts.{Counts, AreCounted, SameCounts, is_shown}
 use Rattle.history_view.specs.Places.{OrderKey, held_in, has_id, has_key, numbers_in, IsOrderOf, KeepsIds, KeepsKeys}
 
--- the texts by their numbers, how ids stand, and the order of what is shown
+-- the texts by their numbers, how often each is shown, how many commands are shown, how ids stand, and the order of what is
+-- shown
 pub record ViewState : Type 0 where
   pub texts : List (List ℕ)
+  pub counts : Counts
+  pub shown : ℕ
   pub ids : List (ℕ × Held)
   pub order : List (OrderKey × Option TextNumbers)
 
@@ -20,6 +25,8 @@ pub record ViewState : Type 0 where
 pub record IsSound (s : ViewState) : Type 0 where
   pub texts : (id : ℕ) (c : Creation) → (held_in s.ids id).first ≡ Some c → HasTexts s.texts c
   pub order : IsOrderOf s.ids s.order
+  pub counted : AreCounted s.counts s.order
+  pub shown : s.shown ≡ sum_by is_shown (values_of s.order)
 
 -- ---- meaning
 
@@ -50,3 +57,6 @@ pub record Steady (old new : ViewState) : Type 0 where
   pub ids : (id : ℕ) → held_in new.ids id ≡ held_in old.ids id
   pub has_keys : KeepsKeys old.order new.order
   pub order : (key : OrderKey) → numbers_in new.order key ≡ numbers_in old.order key
+  pub counts : SameCounts old.counts new.counts
+  pub shown : new.shown ≡ old.shown
+  pub sums : (f : Option TextNumbers → ℕ) → f None ≡ 0 → sum_by f (values_of new.order) ≡ sum_by f (values_of old.order)

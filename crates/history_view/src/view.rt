@@ -6,7 +6,7 @@ ghost use Rattle.record_model.specs.Seen.{history_seen};
 ghost use Rattle.view_rules.specs.Changes.{Change};
 ghost use Rattle.history_view.specs.ViewState.{ViewState, standing_in, Means};
 ghost use Rattle.history_view.specs.Rooms.{IsReady, KeepsRooms};
-ghost use Rattle.history_view.specs.Texts.{KeepsTexts};
+ghost use Rattle.history_view.specs.Texts.{KeepsTexts, AreDistinct};
 ghost use Rattle.history_view.specs.Rows.{HasTexts, command_of, HasAuthor, author_of};
 ghost use Rattle.history_view.specs.Walk.{walked_in, shown_command, newest_of, IsRow, StandInOrder, AreShown};
 ghost use Rattle.std.specs.List.{AllByRecursion};
@@ -15,7 +15,13 @@ ghost use Rattle.definitions.specs.Search.{is_shown_before};
 ghost use Rattle.definitions.specs.Journal.{HaveDistinctIds};
 ghost use Rattle.history_view.specs.Shown.{command_seen};
 ghost use Rattle.std.specs.Option.{option_map};
+ghost use Rattle.std.specs.Prelude.{length};
+ghost use Rattle.std.specs.List.{filter, filter_map};
+ghost use Rattle.view_rules.specs.Answers.{in_scope};
+ghost use Rattle.history_view.specs.Counts.{Counts, SameCounts, count_of, the_command};
+ghost use Rattle.history_view.specs.Buckets.{bucket_in, scope_seen};
 
+use crate::bucket::{Bucket, ScopeNumber, scope_number};
 use crate::dictionary::Dictionary;
 use crate::places::{Ids, Order, change, held, make_id, make_key};
 use crate::room::Room;
@@ -23,7 +29,7 @@ use crate::rows::Creation;
 use crate::shown::ShownCommand;
 use crate::walk::Newest;
 use plain_types::{NoMemory, Text};
-use record_model::History;
+use record_model::{Filter, History};
 use std::alloc::Global;
 use std::cmp::Reverse;
 use std::collections::{BTreeMap, HashMap};
@@ -35,6 +41,7 @@ pub struct HistoryView {
     texts: Dictionary,
     ids: Ids,
     order: Order,
+    shown: u64,
 }
 
 impl Model for HistoryView {
@@ -42,9 +49,9 @@ impl Model for HistoryView {
 
     ghost Value = { ViewState };
 
-    ghost view = { λ v. record { texts = v.texts; ids = v.ids.entries; order = v.order.entries } };
+    ghost view = { λ v. record { texts = v.texts.texts; counts = v.texts.counts; shown = v.shown; ids = v.ids.entries; order = v.order.entries } };
 
-    ghost invariant = { λ v. IsSound (record { texts = v.texts; ids = v.ids.entries; order = v.order.entries }) };
+    ghost invariant = { λ v. IsSound (record { texts = v.texts.texts; counts = v.texts.counts; shown = v.shown; ids = v.ids.entries; order = v.order.entries }) };
 }
 
 impl HistoryView {
@@ -56,6 +63,7 @@ impl HistoryView {
             texts: Dictionary::new(alloc),
             ids: HashMap::new(alloc),
             order: BTreeMap::new(alloc),
+            shown: 0,
         }
     }
 
@@ -107,11 +115,37 @@ impl HistoryView {
         held(&self.ids, id).dead
     }
 
-    /// The texts that have numbers.
-    pub fn texts(&self) -> &Dictionary
-        ensures { result.now ≡ self.now.texts }
+    /// How many texts have numbers: those below it.
+    pub fn text_count(&self) -> usize
+        ensures len { result ≡ length self.now.texts }
+        ensures distinct { AreDistinct self.now.texts }
     {
-        &self.texts
+        self.texts.len()
+    }
+
+    /// The commands that the filter lets through, as `newest` shows them. It takes no memory.
+    pub fn bucket(&self, by: &Filter) -> Bucket<'_>
+        ensures walked { walked_in result.newest.inner ≡ walked_in self.now.order }
+        ensures rows { AllByRecursion (IsRow self.now) (bucket_in result) }
+        ensures filtered { filter_map (λ w. shown_command self.now w.id) (bucket_in result) ≡ filter (in_scope (scope_seen by.now)) (newest_of self.now) }
+    {
+        Bucket {
+            newest: self.newest(),
+            scope: scope_number(&self.texts, by),
+        }
+    }
+
+    /// How many commands `bucket` shows. It takes no memory, and as long for many as for few.
+    pub fn bucket_len(&self, by: &Filter) -> u64
+        ensures { result ≡ length (filter (in_scope (scope_seen by.now)) (newest_of self.now)) }
+    {
+        match self.bucket(by).scope {
+            ScopeNumber::All => self.shown,
+            ScopeNumber::Hostname(number) => self.texts.hosted(number),
+            ScopeNumber::Session(number) => self.texts.in_session(number),
+            ScopeNumber::Cwd(number) => self.texts.in_directory(number),
+            ScopeNumber::Nothing => 0,
+        }
     }
 
     /// The commands that are shown, the newest first, and of those of one time the one with the least id first.
@@ -138,11 +172,25 @@ impl HistoryView {
             Room::Creates(id, creation) => {
                 let placed = creation.placed(host, idx);
                 let new = held(&self.ids, id).after_creation(placed);
-                change(&mut self.ids, &mut self.order, id, new);
+                change(
+                    &mut self.ids,
+                    &mut self.order,
+                    &mut self.texts,
+                    &mut self.shown,
+                    id,
+                    new,
+                );
             }
             Room::Deletes(id) => {
                 let new = held(&self.ids, id).after_deletion();
-                change(&mut self.ids, &mut self.order, id, new);
+                change(
+                    &mut self.ids,
+                    &mut self.order,
+                    &mut self.texts,
+                    &mut self.shown,
+                    id,
+                    new,
+                );
             }
         }
     }
@@ -150,9 +198,10 @@ impl HistoryView {
 
 /// The command in numbers, but for where it stands.
 fn number_texts(texts: &mut Dictionary, alloc: Global, h: &History) -> Result<Creation, NoMemory>
-    ensures keeps { KeepsTexts texts.old texts.new }
-    ensures has { IfOk result (λ c. HasTexts texts.new c) }
-    ensures means { IfOk result (λ c. command_of texts.new h.now.id c ≡ history_seen h.now) }
+    ensures keeps { KeepsTexts texts.old.texts texts.new.texts }
+    ensures counts { SameCounts texts.old.counts texts.new.counts }
+    ensures has { IfOk result (λ c. HasTexts texts.new.texts c) }
+    ensures means { IfOk result (λ c. command_of texts.new.texts h.now.id c ≡ history_seen h.now) }
 {
     let command = texts.number(alloc, h.command.as_bytes())?;
     let cwd = texts.number(alloc, h.cwd.as_bytes())?;
@@ -176,8 +225,8 @@ fn number_texts(texts: &mut Dictionary, alloc: Global, h: &History) -> Result<Cr
 
 /// The command with its texts.
 fn lend<'a>(texts: &'a Dictionary, id: u128, c: &Creation) -> ShownCommand<'a>
-    requires { HasTexts texts.now c.now }
-    ensures { command_seen result ≡ command_of texts.now id c.now }
+    requires { HasTexts texts.now.texts c.now }
+    ensures { command_seen result ≡ command_of texts.now.texts id c.now }
 {
     ShownCommand {
         id,
@@ -199,9 +248,10 @@ fn number_author(
     alloc: Global,
     author: &Option<Text>,
 ) -> Result<Option<u32>, NoMemory>
-    ensures keeps { KeepsTexts texts.old texts.new }
-    ensures has { IfOk result (λ n. HasAuthor texts.new n) }
-    ensures means { IfOk result (λ n. author_of texts.new n ≡ author.now) }
+    ensures keeps { KeepsTexts texts.old.texts texts.new.texts }
+    ensures counts { SameCounts texts.old.counts texts.new.counts }
+    ensures has { IfOk result (λ n. HasAuthor texts.new.texts n) }
+    ensures means { IfOk result (λ n. author_of texts.new.texts n ≡ author.now) }
 {
     match author {
         Some(author) => Ok(Some(texts.number(alloc, author.as_bytes())?)),
@@ -211,8 +261,8 @@ fn number_author(
 
 /// The author's text, where there is one.
 fn lend_author(texts: &Dictionary, author: Option<u32>) -> Option<&[u8]>
-    requires { HasAuthor texts.now author }
-    ensures { option_map (λ a. a.now) result ≡ author_of texts.now author }
+    requires { HasAuthor texts.now.texts author }
+    ensures { option_map (λ a. a.now) result ≡ author_of texts.now.texts author }
 {
     match author {
         Some(number) => Some(texts.text(number)),

@@ -1,28 +1,21 @@
 -- What a search answers, over commands that come the newest first.
-use Rattle.std.specs.Prelude.{◌≡◌, ℕ, ◌||◌, not, ◌+◌, ◌-◌, ◌≤◌, length, ◌^◌, min, map, ◌++◌, List, [], drop, Bool, true, false, ◌&&◌, cond, bytes_eq, Option, None, Some, slice_get}
+use Rattle.std.specs.Prelude.{◌≡◌, ℕ, ◌||◌, not, ◌+◌, ◌-◌, ◌≤◌, length, ◌^◌, min, map, ◌++◌, List, [], drop, Bool, false, ◌&&◌, cond, bytes_eq, Option, None, Some, slice_get}
 use Rattle.std.specs.List.Sorted.{IsSortedBy}
 use Rattle.std.specs.List.{filter, filter_map, sum_by, AllByRecursion}
 use Rattle.history_view.specs.declared.shown.ShownCommand.{ShownCommand}
 use Rattle.history_view.specs.declared.walk.Walked.{Walked}
 use Rattle.history_view.specs.ViewState.{ViewState}
 use Rattle.history_view.specs.Shown.{command_seen}
+pub use Rattle.history_view.specs.Buckets.{scope_seen}
 use Rattle.history_view.specs.Walk.{shown_command, IsRow, AreShown}
 use Rattle.definitions.specs.Journal.{HistoryRecord, HaveDistinctIds}
 use Rattle.definitions.specs.Search.{matches_by, is_shown_before, hit_bytes, FitsPage, IsPage}
-use Rattle.view_rules.specs.Answers.{Scope, of_all, of_hostname, of_session, of_cwd, ScopedQuery, in_scope, is_found, firsts}
+use Rattle.view_rules.specs.Answers.{ScopedQuery, in_scope, is_found, firsts}
 use Rattle.record_model.specs.Seen.{mode_seen}
 use Rattle.search_query.specs.Matching.{Wanted}
-use Rattle.record_model.specs.declared.asking.Filter.{Filter}
-use Rattle.record_model.specs.declared.asking.Filter.TheVariants.{Global, Host, Session, Directory}
 use Rattle.record_model.specs.declared.asking.Query.{Query}
 
 -- ---- what is asked
-
-abbrev pub scope_seen : Filter → Scope
-scope_seen Global = of_all
-scope_seen (Host text) = of_hostname text
-scope_seen (Session text) = of_session text
-scope_seen (Directory text) = of_cwd text
 
 abbrev pub query_seen : Query → ScopedQuery
 query_seen q = record { scope = scope_seen q.filter; unique = q.unique; query = record { mode = mode_seen q.mode; text = q.text; offset = q.offset; limit = q.limit } }

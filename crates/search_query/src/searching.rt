@@ -60,7 +60,7 @@ fn walk<'a>(
     ensures listed { IfOk result (λ _. ListsShown view.now (newest_of view.now)) }
     ensures steps { steps.new ≤ steps.old + length (filter (in_scope (scope_seen query.now.filter)) (newest_of view.now)) }
 {
-    let mut memo = blank(alloc, view.texts().len())?;
+    let mut memo = blank(alloc, view.text_count())?;
     let mut hits = Vec::new(alloc);
     let mut bytes = 0;
     let mut skip = query.offset;

@@ -1,4 +1,4 @@
-use Rattle.std.proofs.Common.{◌≡◌, ℕ, List, Bool, Option, Some, ap, sym, ◌∙◌, subst, ◌&&◌, not}
+use Rattle.std.proofs.Common.{◌≡◌, ℕ, List, Bool, Option, ap, sym, ◌∙◌, subst, ◌&&◌, not}
 use Rattle.std.specs.Option.{option_map}
 use Rattle.definitions.specs.Search.{matches_by}
 use Rattle.history_view.specs.Shown.{command_seen}

@@ -1,5 +1,5 @@
 use Rattle.std.proofs.Common.{arith}
-use Rattle.std.proofs.Common.{ℕ, List, Option, ap, sym, subst, ◌∙◌, length, Vec, Global}
+use Rattle.std.proofs.Common.{List, Option, ap, sym, subst, ◌∙◌, Vec, Global}
 use Rattle.std.specs.Option.{option_map}
 use Rattle.history_view.specs.declared.walk.Walked.{Walked}
 use Rattle.history_view.specs.declared.walk.Newest.{Newest}
@@ -15,7 +15,7 @@ use Rattle.search_query.proofs.searching.walk.Goals.{in-None, in-Some+in_ok-foun
 pub loop-walked-init : goal.loop-walked-init
 loop-walked-init c =
     begins_walk c.args.query.now c.args.view.now (walked_in c.args.view.now.order) (walked_in c.into_iter-walked-iterator.result.inner) c.in_ok-memo.memo.items c.new-hits.result.items c.args.steps.now
-    (ap (λ (n : Newest). walked_in n.inner) c.into_iter-walked-iterator.ensures.into_iter_gives ∙ c.newest-walked-items.ensures.walked) c.newest-walked-items.ensures.rows c.in_ok-memo.ensures.blank (c.in_ok-memo.ensures.long ∙ c.len.ensures.len ∙ ap (λ (ts : List (List ℕ)). length ts) c.texts.ensures) c.new-hits.ensures.items
+    (ap (λ (n : Newest). walked_in n.inner) c.into_iter-walked-iterator.ensures.into_iter_gives ∙ c.newest-walked-items.ensures.walked) c.newest-walked-items.ensures.rows c.in_ok-memo.ensures.blank (c.in_ok-memo.ensures.long ∙ c.text_count.ensures.len) c.new-hits.ensures.items
 
 pub loop-walked-preserved-then-skip-gt0 : goal.loop-walked-preserved-then-skip-gt0
 loop-walked-preserved-then-skip-gt0 c =

@@ -14,19 +14,19 @@ use Rattle.history_view.proofs.view.HistoryView.newest.Goals as goal
 
 pub returns-clause-rows : goal.returns-clause-rows
 returns-clause-rows c =
-    let s : ViewState = record { texts = c.self.inside.texts; ids = c.self.inside.ids.entries; order = c.self.inside.order.entries } in
+    let s : ViewState = record { texts = c.self.inside.texts.texts; counts = c.self.inside.texts.counts; shown = c.self.inside.shown; ids = c.self.inside.ids.entries; order = c.self.inside.order.entries } in
     let found = recursion_from_All (λ (e : OrderKey × Option TextNumbers). lookup (is_at (key_cmp e.0)) s.order ≡ Some e.1) s.order c.iter.ensures.found in
     subst (λ (t : ViewState). AllByRecursion (IsRow t) (walked_in t.order)) c.self.view_is (rows_in s c.self.invariant s.order found)
 
 pub returns-clause-in_order : goal.returns-clause-in_order
 returns-clause-in_order c =
-    let s : ViewState = record { texts = c.self.inside.texts; ids = c.self.inside.ids.entries; order = c.self.inside.order.entries } in
+    let s : ViewState = record { texts = c.self.inside.texts.texts; counts = c.self.inside.texts.counts; shown = c.self.inside.shown; ids = c.self.inside.ids.entries; order = c.self.inside.order.entries } in
     let found = recursion_from_All (λ (e : OrderKey × Option TextNumbers). lookup (is_at (key_cmp e.0)) s.order ≡ Some e.1) s.order c.iter.ensures.found in
     subst (λ (t : ViewState). StandInOrder (newest_of t)) c.self.view_is (stand_in_order s c.iter.ensures.ordered (rows_in s c.self.invariant s.order found))
 
 pub returns-clause-shown : goal.returns-clause-shown
 returns-clause-shown c =
-    let s : ViewState = record { texts = c.self.inside.texts; ids = c.self.inside.ids.entries; order = c.self.inside.order.entries } in
+    let s : ViewState = record { texts = c.self.inside.texts.texts; counts = c.self.inside.texts.counts; shown = c.self.inside.shown; ids = c.self.inside.ids.entries; order = c.self.inside.order.entries } in
     let found = recursion_from_All (λ (e : OrderKey × Option TextNumbers). lookup (is_at (key_cmp e.0)) s.order ≡ Some e.1) s.order c.iter.ensures.found in
     subst (λ (t : ViewState). AreShown t (newest_of t)) c.self.view_is (are_shown s c.self.invariant (rows_in s c.self.invariant s.order found))
 

@@ -5,7 +5,7 @@ use Rattle.std.specs.Int.{w32, to_be_bytes}
 use Rattle.std.proofs.lemmas.List.{length-replicate, take_at}
 use Rattle.record_rules.specs.Records.{Entry}
 use Rattle.record_rules.specs.Journal.{events_of, Sound}
-use Rattle.record_rules.proofs.Fronts.{Sound-prefix}
+use Rattle.record_rules.proofs.Prefixes.{Sound-prefix}
 use Rattle.log_rules.specs.Body.{body_bytes, IsBatch}
 use Rattle.log_rules.specs.Log.{Form, batch_digest, current_form, payload_bytes, IsLogPrefix, StandsFor}
 use Rattle.log_rules.proofs.Logs.{open_gate_is_prefix}

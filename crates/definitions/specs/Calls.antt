@@ -104,7 +104,7 @@ pub data PlainCall : Type 0 where
   -- for all: a mode that makes no difference, a filter's text that is read past, the offset and the limit
   plain_search_call : SearchMode → List ℕ → ℕ → ℕ → PlainCall
 
--- the arguments of a Start, an End and a Search; a Search has no filter, no query and no unique hits yet
+-- the arguments of a Start, an End and a Search; a plain Search has no filter, no query and no unique hits
 abbrev pub start_kinds : List Kind
 start_kinds = any_text ∷ any_text ∷ any_text ∷ any_text ∷ []
 

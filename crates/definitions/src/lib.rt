@@ -3,8 +3,9 @@
 //! `specs/` says what bytes spell which integer, text, array and call (`Spelling`, `Calls`), how a stream is cut into
 //! frames (`Frames`), how an id is made and printed (`Ids`), what a journal of plain commands is (`Journal`), how a
 //! search matches, orders and cuts (`Search`), which prefix of some items weighs so much (`Pages`), which limits hold
-//! (`Limits`), what a reply's bytes are (`Replies`), and what one request (`Step`) and a list of
-//! requests (`Runs`) do to a journal. `Reading` reads from left to right, as code does; nothing rests on it alone.
+//! (`Limits`), what a reply's bytes are (`Replies`), what one request (`Step`) and a list of
+//! requests (`Runs`) do to a journal, how a count of faults moves (`Counts`), and how one list begins another
+//! (`Prefixes`). `Reading` reads from left to right, as code does; nothing rests on it alone.
 //! `Examples` works the words out.
 //! No word names a type of the crates above: each mirrors what it needs by a small record of numbers and lists.
 #![tactic(auto)]

@@ -93,7 +93,7 @@ pub record HasHeader (form : Form) (bytes : List ℕ) (host : ℕ) : Type 0 wher
 abbrev pub HasNoHeader : Form → List ℕ → Type 0
 HasNoHeader form bytes = (length bytes < 33) ⊎ ((host : ℕ) → host < 2 ^ 128 → take 32 bytes ≢ header_bytes form host)
 
--- a header of the form that is written, of the old form, or of neither
+-- a header of neither form; one of the old form; none of the old form
 abbrev pub NotALog : List ℕ → Type 0
 NotALog bytes = HasNoHeader current_form bytes × HasNoHeader old_form bytes
 

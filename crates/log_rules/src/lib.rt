@@ -1,7 +1,7 @@
 //! The words for a log file: what bytes spell which events (`Body`), what bytes stand for which journal,
 //! and which are no log or damaged at an offset (`Log`), how a body is read, and where it can't be
-//! (`Reading`), where a batch and an event stand (`Spots`), what
-//! the entries of a log that is opened are (`Opened`), what bytes are found to hold by computing
+//! (`Reading`), also one that comes in pieces (`Pieces`), where a batch and an event stand (`Spots`),
+//! what the entries of a log that is opened are (`Opened`), what bytes are found to hold by computing
 //! (`Contents`); and the laws that hold of these words alone.
 //!
 //! A log is a header that names the host, then batches of 1 to 100 events, and last a gate byte 0, which

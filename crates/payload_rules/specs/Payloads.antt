@@ -1,6 +1,7 @@
 -- What a record holds once it is opened, and which bytes spell it in which version. Ids have 128 bits, times are
--- nanoseconds since 1970. Version v0 is as other stores of shell history write it. Version v1 is this project's own: it has
--- the author of a command, and deletions of pairs; a reader of v0 alone finds its records unread.
+-- nanoseconds since 1970. Version v0 has what other stores of shell history tell of a command, a key and an
+-- alias. Version v1 is this project's own: it has the author of a command, and deletions of pairs; a reader of v0 alone
+-- finds its records unread.
 use Rattle.std.specs.Prelude.{◌≡◌, ℕ, ◌<◌, ◌^◌, pos, FitsSigned, List, [], ◌∷◌, ◌++◌, length, codes, Option, Some, None}
 use Rattle.std.specs.Int.{w8, w16, w64}
 use Rattle.definitions.specs.Spelling.{marked, TextFits, written_integer, written_text, written_array}

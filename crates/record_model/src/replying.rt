@@ -27,7 +27,7 @@ pub enum Answer {
 /// Why a call was refused. A refused call adds nothing of its own.
 #[derive(Debug, Drop)]
 pub enum Refusal {
-    /// The argument at the position `field`, from 1, has `length` bytes, more than it may have.
+    /// The argument of the number `field`, from 1, has `length` bytes, more than it may have.
     TooLong { field: u8, length: u64 },
     /// No running command has this id, or no shown one where a command is deleted.
     UnknownId { id: u128 },

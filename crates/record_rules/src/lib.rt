@@ -7,7 +7,7 @@
 //! record is nowhere opened.
 //!
 //! Each function has an empty body, and its contract is the law that its name says. Of `definitions`
-//! the crate takes what a started command is.
+//! the crate takes what a started command is, which limits hold, and what it is for a list to begin another.
 #![tactic(auto)]
 
 ghost use Rattle.record_rules.specs.Laws.{EmptyIsSound, EntryKeepsSound, SoundEntryFollows, PrefixIsSound, StatusTellsLengths, StatusListsNoEmpty, StatusAscends, LengthsMakeStatus, StatusIsDetermined, OwnWithOne, ChainWithOne, RunningWithOne, HeldWithOne, CountWithOne, FreshWithOne, FreshOfWithOne, WantedWithOne, MayComeIsTold, SoundIsTold, GrowthIsInTurn, PageIsLongest, GrowthKeepsSound, RefusalLeavesAll, TakenPageFits, NextPageIsTaken, RecordsPastHundred, GrowthExtendsChains, GrowthLeavesOthers, GrowthHoldsPage, RepeatAddsNothing, StandingAddsNothing, RepliesAlike, RepliesAlone, RepliesAsAlone, SliceNeverForks, SliceKeepsPrefix, SliceLeavesOtherChains};

@@ -1,7 +1,7 @@
 //! Sealed records: a payload is sealed to what its record says in the open, and opened again.
 //!
-//! The model is the texts themselves. `specs/` defines the seal of a payload (`seal_of`), in which payload a record
-//! opens to (`OpensToBytes`) JSON is read as the kit's `serde_json` reads it, and what opening answers, by cases (`Unseals`):
+//! The model is the texts themselves. `specs/` defines the seal of a payload (`seal_of`), which payload a record opens to
+//! (`OpensToBytes`), where JSON is read as the kit's `serde_json` reads it, and what opening answers, by cases (`Unseals`):
 //! the payload, the id of the key that a record was sealed under, no seal of this key, or want of memory. Heads and
 //! records are those of `step_rules` and `record_rules`.
 //!

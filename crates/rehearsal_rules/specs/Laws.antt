@@ -28,13 +28,13 @@ abbrev pub IsReached : (keyed : List ℕ → KeyedStore) → (seed hosts events 
 IsReached keyed seed hosts events w = (happened : List (WorldEvent StoreAsked)) × Reach (store_step (keyed (key_of seed))) (hosts_of hosts) happened w
 
 -- At the end all nodes, the server among them, hold the same chains, of equal status, and show the same, whatever opening a record gives.
-pub record AreAlike (w : World) (node other : ℕ) : Type 0 where
+pub record NodesAgree (w : World) (node other : ℕ) : Type 0 where
   pub chains : (host : ℕ) (tag : List ℕ) → chain (w.journal node) 0 host tag ≡ chain (w.journal other) 0 host tag
   pub statuses : status (w.journal node) 0 ≡ status (w.journal other) 0
   pub views : (opening : Opening) → SameViews (changes_of opening (viewed (w.journal node))) (changes_of opening (viewed (w.journal other)))
 
 abbrev pub EndAlike : (keyed : List ℕ → KeyedStore) → (seed hosts events : ℕ) → World → Type 0
-EndAlike keyed seed hosts events w = (node other : ℕ) → node ≤ hosts → other ≤ hosts → AreAlike w node other
+EndAlike keyed seed hosts events w = (node other : ℕ) → node ≤ hosts → other ≤ hosts → NodesAgree w node other
 
 -- What they hold is all that the hosts made: when all events had happened, before the last transfers, the chains of each host at its own
 -- node were those that each node has now.

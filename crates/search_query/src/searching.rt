@@ -19,8 +19,9 @@ use plain_types::NoMemory;
 use record_model::{Filter, Query};
 use std::alloc::Global;
 
-/// The first hits of the query, the newest first, as many as one reply may show. The limit is at least 1. Each match test of
-/// a command is one step; there is at most one for each command that passes the filter.
+/// The hits of the query, the newest first, of equal ones the first where they are to be unique, without the first `offset`,
+/// and as many as one reply may show. The limit is at least 1. Each match test of a command is one step; there is at most
+/// one for each command that passes the filter.
 ///
 /// # Errors
 ///

@@ -2,9 +2,9 @@
 //! turn, which is a step on a disk that may fail; pages that are taken in and what is read beside a
 //! session, in turns of their own; and the laws that hold of these words alone.
 //!
-//! A call is refused, or appends one entry, or shows something. What seals and
-//! opens bytes under a key is a parameter, `Sealing`, with what has to hold of it. The words for journals are those of `record_rules`, those for what records
-//! hold and show those of `payload_rules` and `view_rules`.
+//! A call is refused, or appends one entry, or shows something. What seals and opens bytes under a key
+//! is a parameter, `Sealing`, with what has to hold of it. The words for journals are those of
+//! `record_rules`, those for what records hold and show those of `payload_rules` and `view_rules`.
 //!
 //! Each function has an empty body, and its contract is the law that its name says.
 #![tactic(auto)]

@@ -1,11 +1,14 @@
 -- What a log is after each call.
 use Rattle.std.proofs.Common.{◌≡◌, ℕ, ◌+◌, ◌<◌, ◌⊎◌, ◌^◌, inl, inr, List, [], ◌∷◌, ◌++◌, length, drop, Option, Some, None, refl, sym, ◌∙◌, ap, subst, arith}
 use Rattle.std.proofs.lemmas.List.{append-nil}
+use Rattle.definitions.specs.Spelling.{IsBytes}
 use Rattle.record_rules.specs.Records.{Entry}
 use Rattle.record_rules.specs.Journal.{events_of, Sound}
 use Rattle.record_rules.proofs.Soundness.{empty_sound}
 use Rattle.log_rules.specs.Body.{IsBatch}
 use Rattle.log_rules.specs.Log.{Form, header_bytes, payload_bytes, StandsFor}
+use Rattle.log_rules.specs.Contents.{store_journal, callers_of}
+use Rattle.log_rules.proofs.Contents.{store_is_shown}
 use Rattle.log_rules.proofs.Examples.{empty_prefix}
 use Rattle.log_rules.proofs.Logs.{open_gate_is_prefix}
 use Rattle.disk_rules.specs.Disk.{Disk, Leaves, IsDisk}
@@ -62,3 +65,16 @@ settle_ends form prefix host journal more old new log (inr fails) = inl (may_set
 pub settled_may_append : (form : Form) (prefix : List ℕ) (host : ℕ) (journal more next : List Entry) (old mid : Disk) → IsLog form prefix host journal (Some more) old → AllDone (settle_calls (length prefix)) old mid
     → IsBatch (events_of next) → Sound ((journal ++ more) ++ next) host → MayAppend form (prefix ++ 1 ∷ payload_bytes form (length prefix) (events_of more)) host (journal ++ more) next mid
 settled_may_append form prefix host journal more next old mid log done batch sound = record { log = (settled_holds_log form prefix host journal more old mid log done).1; batch = batch; sound = sound }
+
+-- ---- what a store means
+
+shown_stands : (form : Form) (host : ℕ) (journal : List Entry) (bytes : List ℕ) → IsBytes bytes → StandsFor form bytes host journal → store_journal form (callers_of journal) bytes ≡ journal
+shown_stands form host journal bytes are stands = store_is_shown form bytes host journal [] are (subst (StandsFor form bytes host) (sym (append-nil journal)) stands)
+
+pub shown_is_the_journal : (form : Form) (prefix : List ℕ) (host : ℕ) (journal : List Entry) (doubt : Option (List Entry)) (disk : Disk) → IsLog form prefix host journal doubt disk → IsBytes disk.shows → store_journal form (callers_of journal) disk.shows ≡ journal
+shown_is_the_journal form prefix host journal None disk log are = shown_stands form host journal disk.shows are (held_log_stands form prefix host journal disk disk.shows log (shows_is_left disk log.settled.is_disk))
+shown_is_the_journal form prefix host journal (Some more) disk log are =
+    elim (log_leaves_images form prefix host journal (Some more) disk disk.shows log (shows_is_left disk log.doubt.is_disk)) [
+      | inl stands ↦ shown_stands form host journal disk.shows are stands
+      | inr stands ↦ store_is_shown form disk.shows host journal more are stands
+    ]

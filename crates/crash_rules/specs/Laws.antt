@@ -1,9 +1,11 @@
 -- What a log stands for after a crash, as statements. Each is the contract of the function of its name.
 use Rattle.std.specs.Prelude.{◌≡◌, ℕ, ◌<◌, ◌⊎◌, ◌^◌, List, [], ◌∷◌, ◌++◌, length, Option, Some, None}
 use Rattle.std.specs.List.{AllByRecursion}
+use Rattle.definitions.specs.Spelling.{IsBytes}
 use Rattle.record_rules.specs.Records.{Entry}
 use Rattle.record_rules.specs.Journal.{events_of, Sound}
 use Rattle.log_rules.specs.Body.{IsBatch}
+use Rattle.log_rules.specs.Contents.{store_journal, callers_of}
 use Rattle.log_rules.specs.Log.{Form, header_bytes, payload_bytes, IsLogPrefix, StandsFor}
 use Rattle.disk_rules.specs.Disk.{Disk, Leaves, IsDisk, Since}
 use Rattle.disk_rules.specs.Calls.{DiskCall, Write, Sync, Done, Reaches, AllDone}
@@ -152,3 +154,10 @@ SettleEnds = (form : Form) (prefix : List ℕ) (host : ℕ) (journal more : List
 abbrev pub SettledMayAppend : Type 0
 SettledMayAppend = (form : Form) (prefix : List ℕ) (host : ℕ) (journal more next : List Entry) (old mid : Disk) → IsLog form prefix host journal (Some more) old → AllDone (settle_calls (length prefix)) old mid
     → IsBatch (events_of next) → Sound ((journal ++ more) ++ next) host → MayAppend form (prefix ++ 1 ∷ payload_bytes form (length prefix) (events_of more)) host (journal ++ more) next mid
+
+-- ---- what a store means
+
+-- A log, and a store over it, mean a function of what the disk shows: the callers that the store keeps, each with the event that stands there. Where a batch is
+-- in doubt its callers aren't kept yet.
+abbrev pub ShownIsTheJournal : Type 0
+ShownIsTheJournal = (form : Form) (prefix : List ℕ) (host : ℕ) (journal : List Entry) (doubt : Option (List Entry)) (disk : Disk) → IsLog form prefix host journal doubt disk → IsBytes disk.shows → store_journal form (callers_of journal) disk.shows ≡ journal

@@ -8,7 +8,7 @@ use Rattle.definitions.specs.Journal.{StartedRecord}
 use Rattle.definitions.proofs.Items.{both_true}
 use Rattle.record_rules.specs.Records.{SealedRecord, Event, event_weight, record_weight}
 use Rattle.record_rules.specs.Journal.{ChainPlace, PassedLimit, Totals, held_of, records_of, in_place, places_of, places_added, limit_passed, entries_passed, weight_passed, places_passed, RecordFits, StartedFits}
-use Rattle.record_rules.specs.Limits.{most_entries, most_held_weight, most_places}
+use Rattle.definitions.specs.Limits.{most_entries, most_held_weight, most_places}
 use Rattle.record_rules.proofs.Totals.{Room, room_from_none}
 use Rattle.journal_check.specs.declared.owner_totals.OwnerTotals.{OwnerTotals}
 use Rattle.journal_check.specs.Tallies.{totals_seen}

@@ -243,13 +243,13 @@ module _ {V : Type 0} (items : V → List ℕ) (showing : Showing) where
     }
 
     pub ends : (page : List NamedText) (bytes : ℕ) → IsOnWay items showing limit all [] page bytes → IsPage named_bytes limit (filter_map shows all) (items_seen page)
-    ends page bytes way = record { rest = []; front = sym way.whole; fits = way.fits; most = λ next others e. absurd cc }
+    ends page bytes way = record { rest = []; begins = sym way.whole; fits = way.fits; most = λ next others e. absurd cc }
 
     pub breaks : (e : V × Option Setting) (value : List ℕ) (left : List (V × Option Setting)) (item : NamedText) (page : List NamedText) (bytes : ℕ) → IsOnWay items showing limit all (e ∷ left) page bytes → value_of (option_map setting_seen e.1) ≡ Some value
         → named_seen item ≡ item_of showing (items e.0) value → (FitsPage named_bytes limit (items_seen page ++ named_seen item ∷ []) → ⊥) → IsPage named_bytes limit (filter_map shows all) (items_seen page)
     breaks e value left item page bytes way some shown full = record {
       rest = named_seen item ∷ filter_map shows left;
-      front = sym way.whole ∙ ap (λ (o : Option (List ℕ)). items_seen page ++ cons_option (option_map (item_of showing (items e.0)) o) (filter_map shows left)) some ∙ ap (λ (i : Named). items_seen page ++ i ∷ filter_map shows left) (sym shown);
+      begins = sym way.whole ∙ ap (λ (o : Option (List ℕ)). items_seen page ++ cons_option (option_map (item_of showing (items e.0)) o) (filter_map shows left)) some ∙ ap (λ (i : Named). items_seen page ++ i ∷ filter_map shows left) (sym shown);
       fits = way.fits;
       most = λ next others same fits. full (let is : named_seen item ≡ next = cc in subst (λ (x : Named). FitsPage named_bytes limit (items_seen page ++ x ∷ [])) (sym is) fits);
     }
@@ -274,7 +274,7 @@ list_none showing after limit page none = subst (λ (is : List Named). IsListOf 
       all = [];
       same = λ item. (λ c. absurd (omega (arith, c.1)), λ both. absurd (let never : None ≡ Some both.0.0 = both.0.1 in cc));
       rises = tt;
-      cut = record { rest = []; front = refl; fits = (omega arith, inl (omega arith)); most = λ next others e. absurd cc };
+      cut = record { rest = []; begins = refl; fits = (omega arith, inl (omega arith)); most = λ next others e. absurd cc };
     })
 
 -- names alone have the empty text in the value's place
@@ -282,13 +282,13 @@ abbrev pub without_value : Named → Named
 without_value item = record { name = item.name; value = [] }
 
 none_left : (all page rest : List Named) → all ≡ page ++ rest → ((item : Named) → Among item all → item ≡ without_value item) → map without_value page ≡ page
-none_left all [] rest front alone = refl
-none_left [] (i ∷ page) rest front alone = absurd cc
-none_left (a ∷ all) (i ∷ page) rest front alone =
+none_left all [] rest begins alone = refl
+none_left [] (i ∷ page) rest begins alone = absurd cc
+none_left (a ∷ all) (i ∷ page) rest begins alone =
     let first : a ≡ i = cc in
     let more : all ≡ page ++ rest = cc in
     ap (λ (x : Named). x ∷ map without_value page) (sym (subst (λ (x : Named). x ≡ without_value x) first (alone a (inl refl)))) ∙ ap (λ (is : List Named). i ∷ is) (none_left all page rest more (λ item m. alone item (inr m)))
 
 pub names_alone : (places : Places) (after : List ℕ) (limit : ℕ) (page : List Named) → IsListOf (IsThere NamesAlone places) after limit page → map without_value page ≡ page
 names_alone places after limit page listed =
-    none_left listed.all page listed.cut.rest listed.cut.front (λ item m. ((listed.same item).0 (Contains-from_Among Named listed.all item m)).0.2)
+    none_left listed.all page listed.cut.rest listed.cut.begins (λ item m. ((listed.same item).0 (Contains-from_Among Named listed.all item m)).0.2)

@@ -39,7 +39,7 @@ fn a_command_is_copied_and_weighed(rt: HostRuntime) -> Result<(), Fail> {
         Some(author) => author.as_bytes(),
         None => b"",
     };
-    assert_eq!(rt; author, b"me");
+    assert_eq!(rt; author, b"me".as_slice());
     let started = Started {
         id: h.id,
         timestamp: h.timestamp,

@@ -1,0 +1,4 @@
+pub mod Fails
+pub mod Names
+pub mod Calls
+pub mod Reading

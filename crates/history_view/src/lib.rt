@@ -1,11 +1,18 @@
-//! The view of the commands that ended: which are shown, by id and in the order of searches.
+//! The view of the commands that ended: those that were created and not deleted, and of several creations of
+//! one id the one at the least host and idx.
 //!
-//! The model is how each id stands (`standing` of `view_rules`). A change is made ready with memory and added without; the
-//! view then means the list of changes with it, in whatever order they come. Each text is kept once, by a number; one map
-//! has how ids stand, and an ordered one the commands that are shown, the newest first, with places that were made and
-//! hold nothing yet. A row is lent by value, and contracts see the history record.
+//! Contracts see a view as texts with numbers, how often each text is shown, how each id stands, and the order of
+//! what is shown. `Means` says of which changes a view is, in the words of `view_rules`: one change more is one
+//! `add`, in whatever order changes come, and `a_view_shows_the_history` that what is shown is what the whole list
+//! says. Each text is kept once, in a dictionary; a map tells how each id stands, in numbers, and an ordered map
+//! has what is shown, the newest first. Places in both are made with memory by a `reserve_..`, and never taken out,
+//! so that `add` takes none and a room stays ready whatever comes between.
 //!
-//! Stands on `view_rules`, `record_model`, `plain_types` and the kit's `indexmap`.
+//! The commands of a host, a session or a working directory are the walk over the order that passes by numbers; how
+//! many there are is counted beside each text. A text that was numbered and a place that was made stay, also where
+//! nothing of them is shown any more.
+//!
+//! It stands on `view_rules`, on `record_model` for commands and filters, and on `indexmap`.
 #![tactic(auto)]
 
 mod bucket;

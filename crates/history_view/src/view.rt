@@ -19,7 +19,7 @@ ghost use Rattle.std.specs.Prelude.{length};
 ghost use Rattle.std.specs.List.{filter, filter_map};
 ghost use Rattle.view_rules.specs.Answers.{in_scope};
 ghost use Rattle.history_view.specs.Counts.{Counts, SameCounts, count_of, the_command};
-ghost use Rattle.history_view.specs.Buckets.{bucket_in, scope_seen};
+ghost use Rattle.history_view.specs.Buckets.{bucket_in, scope_seen, Selects};
 
 use crate::bucket::{Bucket, ScopeNumber, scope_number};
 use crate::dictionary::Dictionary;
@@ -121,6 +121,13 @@ impl HistoryView {
         ensures distinct { AreDistinct self.now.texts }
     {
         self.texts.len()
+    }
+
+    /// The filter with its text by its number. It takes no memory.
+    pub fn scope(&self, by: &Filter) -> ScopeNumber
+        ensures { Selects self.now.texts (scope_seen by.now) result }
+    {
+        scope_number(&self.texts, by)
     }
 
     /// The commands that the filter lets through, as `newest` shows them. It takes no memory.

@@ -15,7 +15,10 @@ use Rattle.history_view.specs.Walk.{IsRow, shown_command}
 use Rattle.std.proofs.Common.{cond}
 use Rattle.record_model.specs.declared.asking.Query.{Query}
 use Rattle.view_rules.specs.Answers.{in_scope}
-use Rattle.search_query.specs.Answers.{Seens, scope_seen, test_of, is_new, kept, hit_at, IsMemo, Remembers, more_seen}
+use Rattle.history_view.specs.declared.bucket.ScopeNumber.{ScopeNumber}
+use Rattle.history_view.specs.Buckets.{has_scope, Selects}
+use Rattle.std.specs.List.{cons_option}
+use Rattle.search_query.specs.Answers.{Seens, scope_seen, test_of, is_new, kept, hit_at, passing, IsMemo, Remembers, more_seen}
 
 pub read_at : {X : Type 0} (memo : List X) (texts : List (List ℕ)) (n : ℕ) (command : List ℕ) (x : X) → slice_get texts n ≡ Some command → length memo ≡ length texts → x ≡ get_or memo n x → slice_get memo n ≡ Some x
 read_at memo texts n command x named long is =
@@ -143,3 +146,26 @@ all_three a b c e f = ap (λ (x : Bool). (x && b) && c) e ∙ f
 pub is_hit : (query : Query) (s : ViewState) (w : Walked) (seen : Seens) (h : HistoryRecord) → shown_command s w.id ≡ Some h → in_scope (scope_seen query.filter) h ≡ true → (test_of query h.command && not (seen h.command)) ≡ true → Some h ≡ hit_at query seen s w
 is_hit query s w seen h shown scoped matches =
     sym (ap (kept (is_new query seen)) shown ∙ ap (λ (b : Bool). cond b (Some h) None) (all_three (in_scope (scope_seen query.filter) h) (test_of query h.command) (not (seen h.command)) scoped matches))
+
+-- ---- the filter
+
+-- by the numbers that were walked to the filter lets through what it lets through by the texts
+pub scope_of : (query : Query) (s : ViewState) (w : Walked) (scope : ScopeNumber) → IsRow s w → Selects s.texts (scope_seen query.filter) scope → (h : HistoryRecord) → shown_command s w.id ≡ Some h → has_scope scope w.numbers ≡ in_scope (scope_seen query.filter) h
+scope_of query s w scope row selects h e =
+    let is : command_of s.texts w.id row.creation ≡ h = same_some (command_of s.texts w.id row.creation) h (ap (option_map (command_of s.texts w.id)) (sym row.shown) ∙ e) in
+    ap (has_scope scope) row.numbers ∙ selects w.id row.creation row.texts ∙ ap (in_scope (scope_seen query.filter)) is
+
+outside : (a b c : Bool) → a ≡ false → ((a && b) && c) ≡ false
+outside a b c e = ap (λ (x : Bool). (x && b) && c) e
+
+pub not_scoped : (query : Query) (s : ViewState) (w : Walked) (seen : Seens) (scope : ScopeNumber) → IsRow s w → Selects s.texts (scope_seen query.filter) scope → has_scope scope w.numbers ≡ false → None ≡ hit_at query seen s w
+not_scoped query s w seen scope row selects out =
+    let h : HistoryRecord = command_of s.texts w.id row.creation in
+    let shown : shown_command s w.id ≡ Some h = ap (option_map (command_of s.texts w.id)) row.shown in
+    let scoped = sym (scope_of query s w scope row selects h shown) ∙ out in
+    sym (ap (kept (is_new query seen)) shown ∙ ap (λ (b : Bool). cond b (Some h) None) (outside (in_scope (scope_seen query.filter) h) (test_of query h.command) (not (seen h.command)) scoped))
+
+-- what the filter lets through is one that passes
+pub passing_one : (query : Query) (s : ViewState) (w : Walked) (h : HistoryRecord) → shown_command s w.id ≡ Some h → in_scope (scope_seen query.filter) h ≡ true → passing query s (w ∷ []) ≡ 1
+passing_one query s w h shown scoped =
+    ap (λ (o : Option HistoryRecord). length (cons_option (kept (in_scope (scope_seen query.filter)) o) [])) shown ∙ ap (λ (b : Bool). length (cons_option (cond b (Some h) None) [])) scoped

@@ -7,6 +7,7 @@ ghost use Rattle.view_rules.specs.Changes.{Change, HaveDistinctPlaces};
 ghost use Rattle.view_rules.specs.Answers.{in_scope, SearchAnswer};
 ghost use Rattle.history_view.specs.ViewState.{Means};
 ghost use Rattle.history_view.specs.Shown.{command_seen};
+ghost use Rattle.history_view.specs.Buckets.{Selects};
 ghost use Rattle.history_view.specs.Texts.{AreDistinct};
 ghost use Rattle.history_view.specs.Walk.{newest_of, IsRow};
 ghost use Rattle.search_query.specs.Answers.{Seens, scope_seen, query_seen, test_of, wanted_of, IsAnswerOf, ListsShown, Remembers, passing, hit_at, seen_after, seen_of};
@@ -14,9 +15,9 @@ ghost use Rattle.search_query.specs.Answers.{Seens, scope_seen, query_seen, test
 use crate::matching::Matching;
 use crate::memo::{Memo, blank, is_miss, matches, see};
 use crate::page::take;
-use history_view::{HistoryView, ShownCommand, Walked};
+use history_view::{HistoryView, ScopeNumber, ShownCommand, Walked};
 use plain_types::NoMemory;
-use record_model::{Filter, Query};
+use record_model::Query;
 use std::alloc::Global;
 
 /// The hits of the query, the newest first, of equal ones the first where they are to be unique, without the first `offset`,
@@ -65,8 +66,11 @@ fn walk<'a>(
     let mut hits = Vec::new(alloc);
     let mut bytes = 0;
     let mut skip = query.offset;
+    let scope = view.scope(&query.filter);
     for walked in view.newest() {
-        let found = hit(view, alloc, query, matching, &mut memo, walked, steps)?;
+        let found = hit(
+            view, alloc, query, &scope, matching, &mut memo, walked, steps,
+        )?;
         if let Some(h) = found {
             if skip > 0 {
                 skip -= 1;
@@ -87,12 +91,14 @@ fn hit<'a>(
     view: &'a HistoryView,
     alloc: Global,
     query: &Query,
+    scope: &ScopeNumber,
     matching: &Matching<'_>,
     memo: &mut Memo,
     walked: Walked,
     steps: &mut u64,
 ) -> Result<Option<ShownCommand<'a>>, NoMemory>
     requires row { IsRow view.now walked }
+    requires scope { Selects view.now.texts (scope_seen query.now.filter) scope.now }
     requires matching { matching.now ≡ wanted_of query.now }
     requires distinct { AreDistinct view.now.texts }
     requires long { length memo.old.items ≡ length view.now.texts }
@@ -102,6 +108,9 @@ fn hit<'a>(
     ensures long { length memo.new.items ≡ length view.now.texts }
     ensures steps { steps.new ≤ steps.old + passing query.now view.now (walked ∷ []) }
 {
+    if !scope.has(&walked.numbers) {
+        return Ok(None);
+    }
     if is_miss(memo, walked.numbers.command) {
         return Ok(None);
     }
@@ -109,9 +118,6 @@ fn hit<'a>(
         Some(h) => h,
         None => return Ok(None),
     };
-    if !passes(&query.filter, &h) {
-        return Ok(None);
-    }
     if !matches(
         memo,
         alloc,
@@ -125,16 +131,4 @@ fn hit<'a>(
     }
     see(memo, walked.numbers.command, view, query);
     Ok(Some(h))
-}
-
-/// Whether the command is of those that the filter lets through.
-fn passes(filter: &Filter, h: &ShownCommand<'_>) -> bool
-    ensures { result ≡ in_scope (scope_seen filter.now) (command_seen h.now) }
-{
-    match filter {
-        Filter::Global => true,
-        Filter::Host(text) => h.hostname == text.as_bytes(),
-        Filter::Session(text) => h.session == text.as_bytes(),
-        Filter::Directory(text) => h.cwd == text.as_bytes(),
-    }
 }

@@ -1,6 +1,7 @@
 use super::*;
 use plain_types::{NoMemory, Text};
 use record_model::{Event, Record, Started};
+use std::alloc::Global;
 use std::process::Abort;
 use std::test::*;
 
@@ -41,7 +42,16 @@ fn a_body_is_read_and_written(rt: HostRuntime) -> Result<(), Fail> {
     };
     assert_eq!(rt; events.as_slice().len(), 1);
     is_ls(&rt, &events[0]);
-    let body = write_batch(alloc, events.as_slice())?;
+    let started = Started {
+        id: FIRST_ID,
+        timestamp: 1_700_000_000_000_000_000,
+        command: Text::copied(alloc, b"ls")?,
+        cwd: Text::copied(alloc, b"/")?,
+        session: Text::copied(alloc, b"s1")?,
+        hostname: Text::copied(alloc, b"h:u")?,
+    };
+    let batch = vec![in alloc; Event::Started(started)]?;
+    let body = write_batch(alloc, batch.as_slice())?;
     assert_eq!(rt; body.as_slice(), LS.as_slice());
     assert_eq!(rt; batch_digest(32, &LS), LS_DIGEST);
     Ok(())
@@ -112,35 +122,45 @@ fn records_are_read_back(rt: HostRuntime) -> Result<(), Fail> {
         assert!(rt; false);
         return Ok(());
     };
+    assert_eq!(rt; events.as_slice().len(), 2);
     assert!(rt; matches!(&events[0], Event::Local { rec, closes: Some(7) } if rec.idx == 0xa2));
     assert!(rt; matches!(&events[1], Event::Taken { owner: 5, rec } if rec.timestamp == 0xa4));
     Ok(())
 }
 
-#[test]
-fn a_body_comes_byte_by_byte(rt: HostRuntime) -> Result<(), Fail> {
-    let alloc = rt.alloc();
+/// Reads the body of `ls` in two pieces, of which the first has `count` bytes.
+fn in_two_pieces<R: Abort>(rt: &R, alloc: Global, count: usize) -> Result<(), Fail> {
+    let (first, second) = LS.split_at(count.min(53));
     let mut reader = BodyReader::new(alloc, 53);
-    for at in 0..53 {
-        assert!(rt; reader.push(&LS[at..at + 1]).is_ok());
-        match reader.next(alloc) {
-            Ok(None) => assert!(rt; at < 52),
-            Ok(Some(event)) => {
-                assert_eq!(rt; at, 52);
-                is_ls(&rt, &event);
-            }
-            Err(_) => assert!(rt; false),
-        }
-    }
+    reader.push(first)?;
+    let Ok(None) = reader.next(alloc) else {
+        assert!(rt; false);
+        return Ok(());
+    };
+    reader.push(second)?;
+    let Ok(Some(event)) = reader.next(alloc) else {
+        assert!(rt; false);
+        return Ok(());
+    };
+    is_ls(rt, &event);
     assert!(rt; matches!(reader.next(alloc), Ok(None)));
     assert!(rt; reader.finish().is_ok());
+    Ok(())
+}
+
+#[test]
+fn a_body_comes_in_pieces(rt: HostRuntime) -> Result<(), Fail> {
+    let alloc = rt.alloc();
+    for count in 0..53 {
+        in_two_pieces(&rt, alloc, count)?;
+    }
     // The first 40 bytes alone end too early; a kind 9 is wrong at once.
     let mut cut = BodyReader::new(alloc, 53);
-    assert!(rt; cut.push(&LS[..40]).is_ok());
+    cut.push(&LS[..40])?;
     assert!(rt; matches!(cut.next(alloc), Ok(None)));
     assert!(rt; matches!(cut.finish(), Err(FormatFail::Wrong { place: 40 })));
     let mut wrong = BodyReader::new(alloc, 53);
-    assert!(rt; wrong.push(&[0, 0, 0, 1, 9]).is_ok());
+    wrong.push(&[0, 0, 0, 1, 9])?;
     assert!(rt; matches!(wrong.next(alloc), Err(FormatFail::Wrong { place: 4 })));
     Ok(())
 }

@@ -2,3 +2,4 @@ pub mod Staging
 pub mod Outcomes
 pub mod Created
 pub mod Sizes
+pub mod ReadBack

@@ -1,8 +1,8 @@
 -- What the two halves of an append mean for the journal.
-use Rattle.std.proofs.Common.{◌≡◌, ℕ, ◌+◌, ◌-◌, ◌^◌, inl, inr, List, [], ◌∷◌, ◌++◌, length, replicate, sym, ◌∙◌, ap, subst, arith, Option, Some, None, Result, Ok, Err, length-append}
+use Rattle.std.proofs.Common.{◌≡◌, ℕ, ◌+◌, ◌-◌, ◌^◌, inl, inr, List, [], ◌∷◌, ◌++◌, length, take, replicate, append_assoc, sym, ◌∙◌, ap, subst, arith, Option, Some, None, Result, Ok, Err, length-append}
 use Rattle.std.specs.Prelude.{IfSome, min}
 use Rattle.std.specs.Int.{w32, to_be_bytes}
-use Rattle.std.proofs.lemmas.List.{length-replicate, take_at}
+use Rattle.std.proofs.lemmas.List.{length-replicate, take_at, append-nil}
 use Rattle.record_rules.specs.Records.{Entry}
 use Rattle.record_rules.specs.Journal.{events_of, Sound}
 use Rattle.record_rules.proofs.Prefixes.{Sound-prefix}
@@ -14,7 +14,8 @@ use Rattle.disk_rules.specs.Disk.{Disk}
 use Rattle.disk_rules.specs.Append.{IsSettled, IsInDoubt}
 use Rattle.disk_rules.specs.History.{History, Images}
 use Rattle.disk_rules.proofs.Settle.{doubt_leaves}
-use Rattle.disk_rules.proofs.Settled.{settled_with_batch}
+use Rattle.disk_rules.proofs.Settled.{settled_with_batch, settled_shows}
+use Rattle.disk_rules.proofs.Calls.{shows_is_left}
 use Rattle.disk_rules.proofs.Steps.{doubt_inside}
 use Rattle.crash_rules.specs.Laws.{IsBeforeOrAfter}
 use Rattle.crash_rules.proofs.Crash.{stands_before, stands_after}
@@ -22,7 +23,9 @@ use Rattle.at_edge.specs.Storing.{DiskSeen, Arrives, IsMeasurable}
 use Rattle.at_edge.proofs.DiskRuns.{arrived, arrives_then, arrives_weaker}
 use Rattle.record_log.specs.Gates.{IsAtRest, IsDoubtful, IsUncertain, payload_in}
 use Rattle.record_log.specs.Ready.{ReadyBatch, batch_payload, closed_batch}
-use Rattle.record_log.specs.Journals.{HoldsAt, DoubtsAt, LogSeen, Settles, Appends}
+use Rattle.record_log.specs.Journals.{HoldsAt, DoubtsAt, LogSeen, KeepsFront, Settles, Appends}
+use Rattle.record_log.specs.Reading.{BatchBefore}
+use Rattle.record_log.specs.declared.spots.Spot.{Spot}
 
 -- ---- images
 
@@ -186,14 +189,107 @@ entries_counted gate more = sym (payload_length (record { offset = gate; body = 
 -- ---- both halves
 
 -- where the first half succeeded, the answer is that of the second
-pub stage_then_settle : {T E : Type 0} (host gate count : ℕ) (doubt : Option ℕ) (disk mid : DiskSeen) (new : LogSeen) (result : Result T E) (batch : ReadyBatch) (bytes : List ℕ) → bytes ≡ closed_batch batch → batch.offset ≡ gate → count ≡ length batch.body
+pub stage_then_settle : {E : Type 0} (host gate count : ℕ) (doubt : Option ℕ) (disk mid : DiskSeen) (new : LogSeen) (result : Result Spot E) (batch : ReadyBatch) (bytes : List ℕ) → bytes ≡ closed_batch batch → batch.offset ≡ gate → count ≡ length batch.body
     → ((prefix : List ℕ) → (length prefix ≡ gate) × IfSome disk.history (λ h. IsSettled prefix h.now) → Arrives (IsUncertain prefix (payload_in bytes)) (λ d. IsInDoubt prefix (payload_in bytes) d × IsMeasurable d) disk.history mid.history)
     → Settles (record { disk = mid; host = host; gate = gate; doubt = Some count }) new result → Appends (record { disk = disk; host = host; gate = gate; doubt = doubt }) new result batch
 stage_then_settle host gate count doubt disk mid new (Ok value) batch bytes bytes_are placed count_is stages settles = λ journal more may.
     let run = stage_doubts current_form gate host journal more (payload_in bytes) disk.history mid.history may.journal_is.holds may.entries may.sound (payload_is_batch batch bytes gate more bytes_are placed may.body_is) stages in
     let ends = settles journal more (record { doubt = ap Some (count_is ∙ ap (λ (l : List ℕ). length l) may.body_is); holds = arrived _ _ _ _ run }) in
-    (ends.0, arrives_then _ _ _ _ _ _ (no_end _ _ _ _ run) ends.1)
+    (ends.0, ends.1, arrives_then _ _ _ _ _ _ (no_end _ _ _ _ run) ends.2)
 stage_then_settle host gate count doubt disk mid new (Err fault) batch bytes bytes_are placed count_is stages settles = λ journal more may.
     let run = stage_doubts current_form gate host journal more (payload_in bytes) disk.history mid.history may.journal_is.holds may.entries may.sound (payload_is_batch batch bytes gate more bytes_are placed may.body_is) stages in
     let ends = settles journal more (record { doubt = ap Some (count_is ∙ ap (λ (l : List ℕ). length l) may.body_is); holds = arrived _ _ _ _ run }) in
     inr (ends.0, arrives_then _ _ _ _ _ _ (no_end _ _ _ _ run) ends.1)
+
+-- ---- where the batch stands, and what stays before it
+
+-- the bytes that begin a settled disk
+begun_by : (prefix behind : List ℕ) (gate : ℕ) (shows : List ℕ) → length prefix ≡ gate → shows ≡ prefix ++ behind → take gate shows ≡ prefix
+begun_by prefix behind gate shows place is = ap (take gate) is ∙ take_at prefix behind gate place
+
+settled_front : (prefix : List ℕ) (gate : ℕ) (disk : Disk) → length prefix ≡ gate → IsSettled prefix disk → take gate disk.shows ≡ prefix
+settled_front prefix gate disk place settled =
+    let shown = settled_shows prefix disk settled in
+    begun_by prefix (0 ∷ shown.0) gate disk.shows place (shown.1 ∙ append_assoc prefix (0 ∷ []) shown.0)
+
+longer_front : (prefix more : List ℕ) (gate : ℕ) (disk : Disk) → length prefix ≡ gate → IsSettled (prefix ++ more) disk → take gate disk.shows ≡ prefix
+longer_front prefix more gate disk place settled =
+    let shown = settled_shows (prefix ++ more) disk settled in
+    begun_by prefix (more ++ (0 ∷ shown.0)) gate disk.shows place (shown.1 ∙ append_assoc (prefix ++ more) (0 ∷ []) shown.0 ∙ append_assoc prefix more (0 ∷ shown.0))
+
+doubt_front : (prefix payload : List ℕ) (gate : ℕ) (disk : Disk) → length prefix ≡ gate → IsInDoubt prefix payload disk → take gate disk.shows ≡ prefix
+doubt_front prefix payload gate disk place doubt = elim (doubt_leaves prefix payload disk disk.shows doubt (shows_is_left disk doubt.is_disk)) [
+  | inl before ↦ begun_by prefix (0 ∷ before.0) gate disk.shows place (before.1 ∙ append_assoc prefix (0 ∷ []) before.0)
+  | inr after ↦ begun_by prefix ((after.0 ∷ (payload ++ 0 ∷ [])) ++ after.2.0) gate disk.shows place (after.2.1 ∙ append_assoc prefix (after.0 ∷ (payload ++ 0 ∷ [])) after.2.0)
+]
+
+some_is : (one two : History) → ◌≡◌ {A = Option History} (Some one) (Some two) → one ≡ two
+some_is one two e = cc
+
+pub rest_front : (at_end : List ℕ → Disk → Type 0) (through : List ℕ → Disk → Type 0) (gate : ℕ) (old new : Option History) → IfSome old (λ h. IsAtRest gate h.now)
+    → ((prefix : List ℕ) → (length prefix ≡ gate) × IfSome old (λ h. IsSettled prefix h.now) → Arrives (through prefix) (at_end prefix) old new)
+    → ((prefix : List ℕ) (disk : Disk) → length prefix ≡ gate → at_end prefix disk → take gate disk.shows ≡ prefix) → KeepsFront gate old new
+rest_front at_end through gate None new rests stages begins was now told is = absurd cc
+rest_front at_end through gate (Some old) new rests stages begins was now told is =
+    let run = stages rests.prefix (sym rests.gate_is, rests.settled) in
+    let last = some_is run.0 now (sym run.1 ∙ is) in
+    let first = some_is old was told in
+    ap (λ (h : History). take gate h.now.shows) (sym last) ∙ begins rests.prefix run.0.now (sym rests.gate_is) run.3
+    ∙ sym (settled_front rests.prefix gate old.now (sym rests.gate_is) rests.settled) ∙ ap (λ (h : History). take gate h.now.shows) first
+
+pub doubtful_front : (at_end : List ℕ → List ℕ → Disk → Type 0) (through : List ℕ → List ℕ → Disk → Type 0) (gate count : ℕ) (old new : Option History) → IfSome old (λ h. IsDoubtful gate count h.now)
+    → ((prefix payload : List ℕ) → (length prefix ≡ gate) × IfSome old (λ h. IsInDoubt prefix payload h.now) → Arrives (through prefix payload) (at_end prefix payload) old new)
+    → ((prefix payload : List ℕ) (disk : Disk) → length prefix ≡ gate → at_end prefix payload disk → take gate disk.shows ≡ prefix) → KeepsFront gate old new
+doubtful_front at_end through gate count None new doubtful opens begins was now told is = absurd cc
+doubtful_front at_end through gate count (Some old) new doubtful opens begins was now told is =
+    let run = opens doubtful.prefix doubtful.payload (sym doubtful.gate_is, doubtful.doubt) in
+    let last = some_is run.0 now (sym run.1 ∙ is) in
+    let first = some_is old was told in
+    ap (λ (h : History). take gate h.now.shows) (sym last) ∙ begins doubtful.prefix doubtful.payload run.0.now (sym doubtful.gate_is) run.3
+    ∙ sym (doubt_front doubtful.prefix doubtful.payload gate old.now (sym doubtful.gate_is) doubtful.doubt) ∙ ap (λ (h : History). take gate h.now.shows) first
+
+pub stage_failed_front : (gate : ℕ) (old new : Option History) → IfSome old (λ h. IsAtRest gate h.now) → ((prefix : List ℕ) → (length prefix ≡ gate) × IfSome old (λ h. IsSettled prefix h.now) → Arrives (IsSettled prefix) (IsSettled prefix) old new) → KeepsFront gate old new
+stage_failed_front gate old new rests stages = rest_front IsSettled IsSettled gate old new rests stages (λ prefix disk place settled. settled_front prefix gate disk place settled)
+
+pub open_failed_front : (gate count : ℕ) (old new : Option History) → IfSome old (λ h. IsDoubtful gate count h.now) → ((prefix payload : List ℕ) → (length prefix ≡ gate) × IfSome old (λ h. IsInDoubt prefix payload h.now) → Arrives (IsUncertain prefix payload) (IsInDoubt prefix payload) old new) → KeepsFront gate old new
+open_failed_front gate count old new doubtful opens = doubtful_front IsInDoubt IsUncertain gate count old new doubtful opens (λ prefix payload disk place doubt. doubt_front prefix payload gate disk place doubt)
+
+pub opened_front : (gate count : ℕ) (old new : Option History) → IfSome old (λ h. IsDoubtful gate count h.now) → ((prefix payload : List ℕ) → (length prefix ≡ gate) × IfSome old (λ h. IsInDoubt prefix payload h.now) → Arrives (IsUncertain prefix payload) (IsSettled (prefix ++ 1 ∷ payload)) old new) → KeepsFront gate old new
+opened_front gate count old new doubtful opens = doubtful_front (λ prefix payload. IsSettled (prefix ++ 1 ∷ payload)) IsUncertain gate count old new doubtful opens (λ prefix payload disk place settled. longer_front prefix (1 ∷ payload) gate disk place settled)
+
+-- the second half goes on from the first
+pub staged_front : (gate : ℕ) (payload : List ℕ) (old mid new : Option History) → IfSome old (λ h. IsAtRest gate h.now) → ((prefix : List ℕ) → (length prefix ≡ gate) × IfSome old (λ h. IsSettled prefix h.now) → Arrives (IsUncertain prefix payload) (λ d. IsInDoubt prefix payload d × IsMeasurable d) old mid)
+    → KeepsFront gate mid new → KeepsFront gate old new
+staged_front gate payload None mid new rests stages later was now told is = absurd cc
+staged_front gate payload (Some old) mid new rests stages later was now told is =
+    let run = stages rests.prefix (sym rests.gate_is, rests.settled) in
+    later run.0 now run.1 is ∙ rest_front (λ prefix d. IsInDoubt prefix payload d × IsMeasurable d) (λ prefix. IsUncertain prefix payload) gate (Some old) mid rests stages (λ prefix disk place end. doubt_front prefix payload gate disk place end.0) was run.0 told run.1
+
+-- the batch that was settled stands at its spot
+pub settle_spot : (gate count next host : ℕ) (journal more : List Entry) (old new : Option History) → IfSome old (λ h. IsDoubtful gate (20 + count) h.now) → 20 + count ≡ length (payload_bytes current_form gate (events_of more)) → next ≡ next_gate gate count
+    → IfSome old (λ h. DoubtsAt current_form gate host journal more h.now)
+    → ((prefix payload : List ℕ) → (length prefix ≡ gate) × IfSome old (λ h. IsInDoubt prefix payload h.now) → Arrives (IsUncertain prefix payload) (IsSettled (prefix ++ 1 ∷ payload)) old new)
+    → IfSome new (λ h. BatchBefore next h.now.shows (record { offset = gate; count = count }) (events_of more))
+settle_spot gate count next host journal more None new doubtful count_is next_is doubts opens = subst (λ (seen : Option History). IfSome seen (λ h. BatchBefore next h.now.shows (record { offset = gate; count = count }) (events_of more))) (sym (opens (zeros gate) [] (length-zeros gate, tt))) tt
+settle_spot gate count next host journal more (Some old) new doubtful count_is next_is doubts opens =
+    let prefix = doubts.prefix in
+    let events = events_of more in
+    let payload = payload_bytes current_form (length prefix) events in
+    let fits = doubtful.fits in
+    let run = opens prefix payload (doubts.place, doubts.log.doubt) in
+    let long : length (prefix ++ 1 ∷ payload) ≡ length prefix + (1 + length payload) = length-append prefix (1 ∷ payload) ∙ omega arith in
+    let same : payload ≡ payload_bytes current_form gate events = ap (λ (n : ℕ). payload_bytes current_form n events) doubts.place in
+    let counted : length payload ≡ 20 + count = ap (λ (l : List ℕ). length l) same ∙ sym count_is in
+    let place : length (prefix ++ 1 ∷ payload) ≡ next = omega (arith, long, counted, next_is, fits, doubts.place) in
+    let body = entries_counted gate more in
+    subst (λ (seen : Option History). IfSome seen (λ h. BatchBefore next h.now.shows (record { offset = gate; count = count }) events)) (sym run.1)
+    (record {
+      before = prefix;
+      gate = 1;
+      behind = [];
+      batch = doubts.log.batch;
+      gate_open = λ e. absurd (omega (arith, e));
+      offset_is = sym doubts.place;
+      count_is = omega (arith, count_is, body);
+      bytes_are = settled_front (prefix ++ 1 ∷ payload) next run.0.now place run.3 ∙ ap (λ (l : List ℕ). prefix ++ 1 ∷ l) same ∙ sym (append-nil (prefix ++ 1 ∷ payload_bytes current_form gate events));
+    })

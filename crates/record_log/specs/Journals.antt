@@ -4,13 +4,14 @@ use Rattle.record_rules.specs.Records.{Entry}
 use Rattle.record_rules.specs.Journal.{events_of, Sound}
 use Rattle.log_rules.specs.Body.{body_bytes, IsBatch}
 use Rattle.log_rules.specs.Log.{Form, current_form, StandsFor}
-use Rattle.log_rules.specs.Spots.{Spot, BatchAt}
 use Rattle.disk_rules.specs.Disk.{Disk}
-use Rattle.disk_rules.specs.History.{Images}
+use Rattle.disk_rules.specs.History.{History, Images}
 use Rattle.crash_rules.specs.Laws.{HoldsLog, MaySettle, IsBeforeOrAfter}
 use Rattle.at_edge.specs.Storing.{DiskSeen, Tells, Arrives}
 use Rattle.record_log.specs.Gates.{IsAtRest, IsDoubtful}
 use Rattle.record_log.specs.Ready.{ReadyBatch}
+use Rattle.record_log.specs.Reading.{BatchBefore}
+use Rattle.record_log.specs.declared.spots.Spot.{Spot}
 
 -- what is seen of a log: its disk, its host, the offset of its closed gate, and the length of the body that is in doubt behind that
 pub record LogSeen : Type 0 where
@@ -50,7 +51,11 @@ pub record HasDoubt (log : LogSeen) (journal more : List Entry) : Type 0 where
 
 -- at the spot, before the closed gate, stands the batch of these entries
 abbrev pub HasSpot : LogSeen → Spot → List Entry → Type 0
-HasSpot log spot more = Tells log.disk (λ disk. BatchAt current_form (take log.gate disk.shows) spot (events_of more))
+HasSpot log spot more = Tells log.disk (λ disk. BatchBefore log.gate disk.shows spot (events_of more))
+
+-- the bytes before the gate are shown as before
+abbrev pub KeepsFront : (gate : ℕ) → Option History → Option History → Type 0
+KeepsFront gate old new = (was now : History) → old ≡ Some was → new ≡ Some now → take gate now.now.shows ≡ take gate was.now.shows
 
 -- ---- the calls
 
@@ -70,12 +75,12 @@ abbrev pub LeavesJournal : List Entry → LogSeen → LogSeen → Type 0
 LeavesJournal journal old new = Arrives (Images (λ left. StandsFor current_form left old.host journal)) (λ _. Unit {0}) old.disk.history new.disk.history
 
 -- the batch was in doubt; now it is part of the journal, or still in doubt
-abbrev pub Settles : {T E : Type 0} → LogSeen → LogSeen → Result T E → Type 0
-Settles old new (Ok _) = (journal more : List Entry) → HasDoubt old journal more → HasJournal new (journal ++ more) × LeavesOneOfTwo journal more old new
+abbrev pub Settles : {E : Type 0} → LogSeen → LogSeen → Result Spot E → Type 0
+Settles old new (Ok spot) = (journal more : List Entry) → HasDoubt old journal more → HasJournal new (journal ++ more) × HasSpot new spot more × LeavesOneOfTwo journal more old new
 Settles old new (Err _) = (journal more : List Entry) → HasDoubt old journal more → HasDoubt new journal more × LeavesOneOfTwo journal more old new
 
 -- the batch is part of the journal; or the log is as before, or the batch is in doubt
-abbrev pub Appends : {T E : Type 0} → LogSeen → LogSeen → Result T E → ReadyBatch → Type 0
-Appends old new (Ok _) batch = (journal more : List Entry) → MayTake old journal more batch → HasJournal new (journal ++ more) × LeavesOneOfTwo journal more old new
+abbrev pub Appends : {E : Type 0} → LogSeen → LogSeen → Result Spot E → ReadyBatch → Type 0
+Appends old new (Ok spot) batch = (journal more : List Entry) → MayTake old journal more batch → HasJournal new (journal ++ more) × HasSpot new spot more × LeavesOneOfTwo journal more old new
 Appends old new (Err _) batch = (journal more : List Entry) → MayTake old journal more batch
     → (HasJournal new journal × LeavesJournal journal old new) ⊎ (HasDoubt new journal more × LeavesOneOfTwo journal more old new)

@@ -2,3 +2,4 @@ pub mod Gates
 pub mod Ready
 pub mod Journals
 pub mod Creating
+pub mod Reading

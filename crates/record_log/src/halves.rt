@@ -1,6 +1,6 @@
 //! The two halves of an append, over a disk. The first writes the batch behind the closed gate, the second opens that gate.
 
-ghost use Rattle.std.specs.Prelude.{◌≡◌, ◌≤◌, ◌++◌, [], ◌∷◌, length, IsErr};
+ghost use Rattle.std.specs.Prelude.{◌≡◌, ◌≤◌, ◌++◌, [], ◌∷◌, length, None, IsErr};
 ghost use Rattle.definitions.specs.Counts.{Rose};
 ghost use Rattle.at_edge.specs.Storing.{Tells};
 ghost use Rattle.record_log.specs.Gates.{IsAtRest, payload_in, Stages, OpensGate};
@@ -15,6 +15,7 @@ pub(crate) fn stage<D: Disk>(disk: &mut D, gate: u64, bytes: &[u8]) -> Result<()
     ensures stages { Stages (D.disk disk.old) (D.disk disk.new) result gate bytes.now }
     ensures counted { IsErr result → Rose (D.disk disk.old).faults (D.disk disk.new).faults }
     ensures kept { (D.disk disk.old).faults ≤ (D.disk disk.new).faults }
+    ensures silent { (D.disk disk.old).history ≡ None → (D.disk disk.new).history ≡ None }
 {
     let behind = gate.saturating_add(1);
     match disk.write_at(behind, bytes) {
@@ -33,6 +34,7 @@ pub(crate) fn open_gate<D: Disk>(disk: &mut D, gate: u64) -> Result<(), DiskFaul
     ensures opens { OpensGate (D.disk disk.old) (D.disk disk.new) result gate }
     ensures counted { IsErr result → Rose (D.disk disk.old).faults (D.disk disk.new).faults }
     ensures kept { (D.disk disk.old).faults ≤ (D.disk disk.new).faults }
+    ensures silent { (D.disk disk.old).history ≡ None → (D.disk disk.new).history ≡ None }
 {
     match disk.write_at(gate, &[1]) {
         Ok(()) => (),

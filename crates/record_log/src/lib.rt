@@ -10,18 +10,24 @@
 //! journal alone, and `HasDoubt` that it leaves the journal with the batch in doubt or without it. Both, and what a call
 //! leaves at each moment, hold where the disk tells; over any other disk each call is safe and gives its named answers.
 //!
-//! Still to come: opening a log that stands on a disk, and reading batches and events back.
+//! A batch that was appended stands at a [`Spot`], from which its events are read back, and batches are read one behind the other
+//! by the offsets of their gates. Bytes there that are no such batch can come only from a disk that doesn't tell; they are
+//! answered as a fault of that disk, which counts it.
+//!
+//! Still to come: opening a log that stands on a disk.
 //!
 //! Stands on `at_edge` for disks, `log_format` for bytes, and the words of `log_rules` and `crash_rules`.
 #![tactic(auto)]
 
 mod create;
 mod halves;
+mod reading;
 mod ready;
 mod record_log;
 mod spots;
 
 pub use create::CreateFail;
+pub use reading::ReadFail;
 pub use ready::Ready;
 pub use record_log::RecordLog;
 pub use spots::Spot;

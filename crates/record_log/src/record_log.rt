@@ -7,11 +7,12 @@ ghost use Rattle.record_rules.specs.Journal.{EventFits};
 ghost use Rattle.log_rules.specs.Body.{body_bytes, IsBatch};
 ghost use Rattle.record_model.specs.Seen.{events_seen};
 ghost use Rattle.at_edge.specs.Storing.{Rests};
-ghost use Rattle.record_log.specs.Journals.{HasJournal, Settles, Appends};
+ghost use Rattle.record_log.specs.Journals.{HasJournal, KeepsFront, Settles, Appends};
 ghost use Rattle.record_log.specs.Creating.{HasCause, WasEmpty};
 
 use crate::create::{CreateFail, write_first};
 use crate::halves::{open_gate, stage};
+use crate::reading::{ReadFail, read_batch_at, read_one};
 use crate::ready::Ready;
 use crate::spots::Spot;
 use at_edge::{Disk, DiskFault};
@@ -150,6 +151,8 @@ impl<D: Disk> RecordLog<D> {
         ensures done { OnOk result (self.new.doubt ≡ None) }
         ensures counted { IsErr result → Rose self.old.disk.faults self.new.disk.faults }
         ensures kept { self.old.disk.faults ≤ self.new.disk.faults }
+        ensures front { KeepsFront self.old.gate self.old.disk.history self.new.disk.history }
+        ensures silent { self.old.disk.history ≡ None → self.new.disk.history ≡ None }
         ensures host { self.new.host ≡ self.old.host }
     {
         match stage(&mut self.disk, self.gate, batch.bytes()) {
@@ -173,6 +176,8 @@ impl<D: Disk> RecordLog<D> {
         ensures doubt { OnErr result (self.new.doubt ≡ self.old.doubt) }
         ensures counted { IsErr result → Rose self.old.disk.faults self.new.disk.faults }
         ensures kept { self.old.disk.faults ≤ self.new.disk.faults }
+        ensures front { KeepsFront self.old.gate self.old.disk.history self.new.disk.history }
+        ensures silent { self.old.disk.history ≡ None → self.new.disk.history ≡ None }
         ensures host { self.new.host ≡ self.old.host }
     {
         let Some(count) = self.doubt else {
@@ -188,5 +193,62 @@ impl<D: Disk> RecordLog<D> {
         self.gate = next;
         self.doubt = None;
         Ok(Spot { offset, count })
+    }
+}
+
+impl<D: Disk> RecordLog<D> {
+    ghost use Rattle.at_edge.specs.Storing.{Tells};
+    ghost use Rattle.record_model.specs.Seen.{event_seen};
+    ghost use Rattle.record_log.specs.Reading.{SomeEvent, EventBefore, IsGate, FindsBatch, ReadCause};
+
+    /// The event at this place in the batch at a spot of this log.
+    ///
+    /// # Errors
+    ///
+    /// [`ReadFail::DiskFault`], where the disk's count rose; [`ReadFail::NoMemory`].
+    pub fn read_event(&mut self, alloc: Global, spot: Spot, at: u32) -> Result<Event, ReadFail>
+        requires { Tells self.old.disk (λ d. SomeEvent self.old.gate d.shows spot at) }
+        ensures event { IfOk result (λ event. Tells self.old.disk (λ d. EventBefore self.old.gate d.shows spot at (event_seen event))) }
+        ensures rests { Rests self.old.disk self.new.disk }
+        ensures cause { ReadCause result self.old.disk self.new.disk }
+        ensures host { self.new.host ≡ self.old.host }
+        ensures gate { self.new.gate ≡ self.old.gate }
+        ensures doubt { self.new.doubt ≡ self.old.doubt }
+    {
+        read_one(alloc, &mut self.disk, self.gate, spot, at)
+    }
+
+    /// The batch whose gate stands at this offset, where it stands, and the offset of the next gate. `None` comes exactly
+    /// where the gate there is the closed one.
+    ///
+    /// # Errors
+    ///
+    /// [`ReadFail::DiskFault`], where the disk's count rose; [`ReadFail::NoMemory`].
+    pub fn batch_at(
+        &mut self,
+        alloc: Global,
+        offset: u64,
+    ) -> Result<Option<(Vec<Event>, Spot, u64)>, ReadFail>
+        requires settled { self.old.doubt ≡ None }
+        requires gate { Tells self.old.disk (λ d. IsGate self.old.gate offset d.shows) }
+        ensures batch { IfOk result (λ found. FindsBatch self.old.gate offset self.old.disk found) }
+        ensures rests { Rests self.old.disk self.new.disk }
+        ensures cause { ReadCause result self.old.disk self.new.disk }
+        ensures host { self.new.host ≡ self.old.host }
+        ensures gate { self.new.gate ≡ self.old.gate }
+        ensures doubt { self.new.doubt ≡ None }
+    {
+        if offset == self.gate {
+            return Ok(None);
+        }
+        match read_batch_at(alloc, &mut self.disk, self.gate, offset) {
+            Ok((events, spot)) => {
+                let next = offset
+                    .saturating_add(FIXED_BYTES)
+                    .saturating_add(u64::from(spot.count));
+                Ok(Some((events, spot, next)))
+            }
+            Err(fail) => Err(fail),
+        }
     }
 }

@@ -2,3 +2,4 @@ pub mod Fails
 pub mod Names
 pub mod Calls
 pub mod Reading
+pub mod Writing

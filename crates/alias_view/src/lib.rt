@@ -7,3 +7,6 @@
 mod view;
 
 pub use view::{AliasView, Room};
+
+#[cfg(test)]
+mod tests;

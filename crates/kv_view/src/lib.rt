@@ -10,3 +10,6 @@ mod spaces;
 mod view;
 
 pub use view::{KvView, Room};
+
+#[cfg(test)]
+mod tests;

@@ -34,3 +34,6 @@ pub use rows::{Creation, Held, TextNumbers};
 pub use shown::ShownCommand;
 pub use view::HistoryView;
 pub use walk::{Newest, Walked};
+
+#[cfg(test)]
+mod tests;

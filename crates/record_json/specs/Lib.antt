@@ -1,0 +1,6 @@
+pub mod Json
+pub mod Records
+pub mod Reading
+pub mod Writing
+pub mod Fail
+pub mod Parts

@@ -1,4 +1,7 @@
 //! The item at the front of some bytes, and the bytes behind it.
+//!
+//! What reads a number or a text is inlined: a slice that a call gives back through memory is read again in one piece
+//! while its two words are still on their way there, which costs more than reading the item.
 
 ghost use Rattle.std.specs.Prelude.{◌≡◌, ◌<◌, ◌≤◌, ◌^◌, length, option_map, IfSome, IfNone};
 ghost use Rattle.std.specs.Int.{w8, w16, w32, w64};
@@ -55,6 +58,7 @@ fn is_text(bytes: &[u8]) -> bool
 }
 
 #[tactic(auto, unfolding(definitions::specs::Reading::integer_at))]
+#[inline(always)]
 fn integer_at_front(bytes: &[u8]) -> Option<(i128, &[u8])>
     ensures value { option_map (λ x. (x.0, x.1.now)) result ≡ integer_at bytes.now }
     ensures shorter { IfSome result (λ x. length x.1.now ≤ length bytes.now) }
@@ -92,6 +96,7 @@ fn text_head_of(bytes: &[u8]) -> Option<(u32, &[u8])>
 }
 
 #[tactic(auto, unfolding(definitions::specs::Reading::text_at))]
+#[inline(always)]
 fn text_at_front(bytes: &[u8]) -> Option<(&[u8], &[u8])>
     ensures value { option_map (λ x. (x.0.now, x.1.now)) result ≡ text_at bytes.now }
     ensures shorter { IfSome result (λ x. length x.1.now ≤ length bytes.now) }
@@ -152,6 +157,7 @@ fn array_at_front(bytes: &[u8]) -> Option<(u32, &[u8])>
 }
 
 /// The integer at the front, in any of its spellings, and what stands behind it.
+#[inline(always)]
 pub fn integer_of(bytes: &[u8]) -> Option<(i128, &[u8])>
     ensures spelled { IfSome result (λ x. BeginsWith (SpellsInteger x.0) bytes.now x.1.now) }
     ensures none { IfNone result (NoPrefix IsInteger bytes.now) }
@@ -163,6 +169,7 @@ pub fn integer_of(bytes: &[u8]) -> Option<(i128, &[u8])>
 }
 
 /// The text at the front, in any of its spellings, and what stands behind it.
+#[inline(always)]
 pub fn text_of(bytes: &[u8]) -> Option<(&[u8], &[u8])>
     ensures spelled { IfSome result (λ x. BeginsWith (SpellsText x.0.now) bytes.now x.1.now) }
     ensures none { IfNone result (NoPrefix IsText bytes.now) }
@@ -196,6 +203,7 @@ pub fn bin_of(bytes: &[u8]) -> Option<(&[u8], &[u8])>
 
 /// The number at the front that isn't negative, in any of its spellings, and what stands behind it.
 #[tactic(auto, unfolding(crate::specs::Reading::number_at))]
+#[inline(always)]
 fn number_of(bytes: &[u8]) -> Option<(u64, &[u8])>
     ensures value { option_map (λ x. (x.0, x.1.now)) result ≡ number_at bytes.now }
     ensures shorter { IfSome result (λ x. length x.1.now ≤ length bytes.now) }
@@ -209,6 +217,7 @@ fn number_of(bytes: &[u8]) -> Option<(u64, &[u8])>
 }
 
 #[tactic(auto, unfolding(crate::specs::Reading::nil_or_at))]
+#[inline(always)]
 fn nil_or_u64_at_front(bytes: &[u8]) -> Option<(Option<u64>, &[u8])>
     ensures value { option_map (λ x. (x.0, x.1.now)) result ≡ nil_or_at number_at bytes.now }
     ensures shorter { IfSome result (λ x. length x.1.now ≤ length bytes.now) }
@@ -235,6 +244,7 @@ fn nil_or_text_at_front(bytes: &[u8]) -> Option<(Option<&[u8]>, &[u8])>
 }
 
 /// Nil, or the number at the front that isn't negative, in any of its spellings, and what stands behind it.
+#[inline(always)]
 pub fn nil_or_u64_of(bytes: &[u8]) -> Option<(Option<u64>, &[u8])>
     ensures spelled { IfSome result (λ x. BeginsWith (SpellsNilOr SpellsNumber x.0) bytes.now x.1.now) }
     ensures none { IfNone result (NoPrefix (IsNilOr SpellsNumber) bytes.now) }

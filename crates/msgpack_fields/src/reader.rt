@@ -64,6 +64,7 @@ impl<'a> Reader<'a> {
     /// # Errors
     ///
     /// [`Wrong`] exactly where no spelling of an integer stands there. The reader then stays where it was.
+    #[inline(always)]
     pub fn int(&mut self) -> Result<i128, Wrong>
         ensures spelled { IfOk result (λ v. BeginsWith (SpellsInteger v) self.old.rest self.new.rest) }
         ensures none { IfErr result (λ _. NoPrefix IsInteger self.old.rest) }
@@ -91,6 +92,7 @@ impl<'a> Reader<'a> {
     ///
     /// [`Wrong`] exactly where no spelling of a text stands there: another item, a text that is cut, or one that is not
     /// UTF-8. The reader then stays where it was.
+    #[inline(always)]
     pub fn text(&mut self) -> Result<&'a [u8], Wrong>
         ensures spelled { IfOk result (λ text. BeginsWith (SpellsText text.now) self.old.rest self.new.rest) }
         ensures none { IfErr result (λ _. NoPrefix IsText self.old.rest) }
@@ -144,6 +146,7 @@ impl<'a> Reader<'a> {
     /// # Errors
     ///
     /// [`Wrong`] exactly where neither stands there. The reader then stays where it was.
+    #[inline(always)]
     pub fn nil_or_u64(&mut self) -> Result<Option<u64>, Wrong>
         ensures spelled { IfOk result (λ v. BeginsWith (SpellsNilOr SpellsNumber v) self.old.rest self.new.rest) }
         ensures none { IfErr result (λ _. NoPrefix (IsNilOr SpellsNumber) self.old.rest) }

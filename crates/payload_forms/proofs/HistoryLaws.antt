@@ -1,13 +1,13 @@
 -- What the bin of a command holds is read exactly where it is spelled.
-use Rattle.std.proofs.Common.{◌≡◌, ℕ, ℤ, pos, ◌<◌, ◌^◌, FitsSigned, Bool, true, false, eqb, List, [], ◌∷◌, ◌++◌, Option, Some, None, refl, sym, ap, ap₂, subst, ◌∙◌, append_assoc, append-nil, arith}
+use Rattle.std.proofs.Common.{◌≡◌, ℕ, ℤ, pos, ◌<◌, ◌^◌, FitsSigned, true, eqb, List, [], ◌∷◌, ◌++◌, Option, Some, None, refl, sym, ap, ap₂, subst, ◌∙◌, append_assoc, append-nil}
 use Rattle.std.specs.Int.{w64}
 use Rattle.std.proofs.lemmas.Bool.{eqb-true, eq-eqb}
 use Rattle.std.proofs.lemmas.Option.{same_Some}
 use Rattle.definitions.specs.Ids.{id_text}
 use Rattle.definitions.specs.Journal.{HistoryRecord}
-use Rattle.definitions.specs.Reading.{◌>>=◌, text_at, fits_64}
+use Rattle.definitions.specs.Reading.{◌>>=◌, text_at}
 use Rattle.definitions.specs.Spelling.{SpellsText, SpellsArray}
-use Rattle.definitions.proofs.Bytes.{IsBytes, IsBytes-append, Takes, bind_some, ReadsSpellings}
+use Rattle.definitions.proofs.Bytes.{IsBytes, Takes, bind_some, ReadsSpellings}
 use Rattle.definitions.proofs.Items.{fits_64-fits, fits-fits_64}
 use Rattle.definitions.proofs.Spelling.{texts_read, spelled_integer_fits}
 use Rattle.msgpack_fields.specs.Reading.{SpellsNilOr, SpellsNumber, number_at, nil_or_at}

@@ -1,3 +1,4 @@
+mod DigitLaws
 pub mod ItemLaws
 pub mod HistoryLaws
 pub mod PayloadLaws

@@ -1,5 +1,5 @@
 -- A payload is read exactly where its bytes spell it under a tag and a version.
-use Rattle.std.proofs.Common.{◌≡◌, ℕ, pos, Bool, true, false, cond, eqb, List, [], ◌∷◌, ◌++◌, length, Option, Some, None, refl, sym, ap, subst, ◌∙◌, append_assoc, append-nil}
+use Rattle.std.proofs.Common.{◌≡◌, ℕ, Bool, true, false, cond, eqb, List, [], ◌∷◌, ◌++◌, length, Option, Some, None, refl, sym, ap, subst, ◌∙◌}
 use Rattle.std.specs.Str.{bytes_eq}
 use Rattle.std.proofs.lemmas.Bool.{eqb-true}
 use Rattle.std.proofs.lemmas.Option.{same_Some}
@@ -8,17 +8,17 @@ use Rattle.definitions.specs.Ids.{id_text}
 use Rattle.definitions.specs.Journal.{HistoryRecord}
 use Rattle.definitions.specs.Reading.{◌>>=◌, text_at}
 use Rattle.definitions.specs.Spelling.{SpellsText, SpellsArray}
-use Rattle.definitions.proofs.Bytes.{IsBytes, IsBytes-rest, Takes, bind_some, ReadsSpellings}
+use Rattle.definitions.proofs.Bytes.{IsBytes, IsBytes-rest, bind_some, ReadsSpellings}
 use Rattle.definitions.proofs.Spelling.{texts_read}
 use Rattle.msgpack_fields.specs.Reading.{SpellsNumber, number_at}
 use Rattle.msgpack_fields.proofs.Nils.{numbers_read}
-use Rattle.payload_rules.specs.Items.{Item, an_integer, a_text, an_array, a_bin, bin_head, SpellsBin, SpellsItem, SpellsItems}
-use Rattle.payload_rules.specs.Payloads.{Payload, HistoryCreate, HistoryDelete, KvSet, KvDelete, AliasSet, AliasDelete, history_tag, kv_tag, alias_tag, tag_of, Version, version_0, version_1, version_text, PayloadFits, SpellsPayload, SpellsCreation, PayloadOf}
+use Rattle.payload_rules.specs.Items.{Item, a_text, an_array, a_bin, bin_head, SpellsBin, SpellsItem, SpellsItems}
+use Rattle.payload_rules.specs.Payloads.{Payload, HistoryCreate, HistoryDelete, KvSet, KvDelete, AliasSet, AliasDelete, history_tag, kv_tag, alias_tag, tag_of, Version, version_0, version_1, version_text, PayloadFits, SpellsPayload, PayloadOf}
 use Rattle.payload_rules.specs.Reading.{bin_at}
 use Rattle.payload_rules.proofs.Items.{bins_read}
 use Rattle.payload_forms.specs.Reading.{both_at, whole, this_array_at, id_at, history_at, command_at, key_value_at, no_value_at, key_at, alias_value_at, no_alias_at, alias_at, form_at, version_called}
 use Rattle.payload_forms.proofs.ItemLaws.{SpellsBoth, both_read, this_array_read, SpellsId, id_read, whole_takes, whole_again}
-use Rattle.payload_forms.proofs.HistoryLaws.{last_item, last_spelled, SpellsHistory, history_takes, history_again, itself}
+use Rattle.payload_forms.proofs.HistoryLaws.{last_item, last_spelled, history_takes, history_again, itself}
 
 by_test : {P : Type 0} (t : Bool) → (t ≡ true → P) → (t ≡ false → P) → P
 by_test true f g = f refl

@@ -1,26 +1,15 @@
 -- What the functions that read tell of the bytes, over plain values.
-use Rattle.std.proofs.Common.{◌≡◌, ℕ, ◌<◌, ◌≤◌, ◌^◌, true, List, length, Option, Some, None, Result, Ok, Err, IfOk, refl, sym, ap, ◌∙◌}
-use Rattle.std.specs.Option.{option_map}
-use Rattle.definitions.specs.Ids.{id_text}
-use Rattle.definitions.specs.Reading.{text_at, is_id_text, id_value}
+use Rattle.std.proofs.Common.{◌≡◌, ℕ, ◌≤◌, List, length, Some, None, Result, Ok, Err, IfOk, sym, ap, ◌∙◌}
 use Rattle.definitions.proofs.Bytes.{IsBytes}
-use Rattle.definitions.proofs.Ids.{id_value-id_text}
 use Rattle.payload_rules.specs.Payloads as rules
-use Rattle.payload_forms.specs.declared.items.Version.{Version}
 use Rattle.payload_forms.specs.declared.kinds.Payload.{Payload}
 use Rattle.payload_forms.specs.declared.kinds.PayloadFail.{PayloadFail}
 use Rattle.payload_forms.specs.declared.kinds.PayloadFail.TheVariants.{Unread}
-use Rattle.payload_forms.specs.Reading.{id_at, form_at, version_called}
-use Rattle.payload_forms.specs.Seen.{GivesWhole, payload_seen, version_seen}
+use Rattle.payload_forms.specs.Reading.{form_at, version_called}
+use Rattle.payload_forms.specs.Seen.{GivesWhole, payload_seen}
 use Rattle.payload_forms.specs.Writing.{text_total}
 use Rattle.payload_forms.proofs.TotalLaws.{payload_total}
-use Rattle.payload_forms.proofs.PayloadLaws.{IsRead, payload_takes, payload_again}
-
-pub id_read_so : (bytes digits rest : List ℕ) (id : ℕ) → id < 2 ^ 128 → text_at bytes ≡ Some (digits, rest) → is_id_text digits ≡ true → id_text id ≡ digits → id_at bytes ≡ Some (id, rest)
-unfolding id_at
-id_read_so bytes digits rest id fits read prints is =
-    let value : id_value digits ≡ id = ap id_value (sym is) ∙ id_value-id_text id fits in
-    rw (read, prints) (ap (λ (n : ℕ). Some (n, rest)) value)
+use Rattle.payload_forms.proofs.PayloadLaws.{payload_takes, payload_again}
 
 module _ (tag name bytes : List ℕ) where
   pub read_is_spelled : (r : Result Payload PayloadFail) (v : rules.Version) → IsBytes bytes → version_called name ≡ Some v → GivesWhole payload_seen r (form_at v tag bytes) → IfOk r (λ p. rules.PayloadOf tag name bytes (payload_seen p))

@@ -1,6 +1,5 @@
 -- The texts of a payload have no more bytes than what spells it.
-use Rattle.std.proofs.Common.{◌≡◌, ℕ, pos, ◌+◌, ◌≤◌, List, [], ◌∷◌, ◌++◌, length, length-append, Option, Some, None, Result, Ok, Err, IfOk, refl, sym, ap, ◌∙◌, arith}
-use Rattle.definitions.specs.Ids.{id_text}
+use Rattle.std.proofs.Common.{◌≡◌, ℕ, pos, ◌+◌, ◌≤◌, List, [], ◌∷◌, length, length-append, Option, Some, None, refl, ap, arith}
 use Rattle.definitions.specs.Journal.{HistoryRecord}
 use Rattle.definitions.specs.Search.{author_length, hit_bytes}
 use Rattle.definitions.specs.Spelling.{text_head}

@@ -12,6 +12,7 @@
 #![tactic(auto)]
 
 mod commands;
+mod digits;
 mod items;
 mod kinds;
 mod lengths;

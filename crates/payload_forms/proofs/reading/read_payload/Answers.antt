@@ -1,4 +1,4 @@
-use Rattle.std.proofs.Common.{Some, sym, ap, ◌∙◌, arith}
+use Rattle.std.proofs.Common.{sym, ap, ◌∙◌, arith}
 use Rattle.std.specs.Option.{option_map}
 use Rattle.payload_forms.specs.Seen.{version_seen}
 use Rattle.payload_forms.proofs.TellingLaws.{read_is_spelled, read_is_short, unread_is_unspelled, unnamed_is_unspelled}

@@ -14,3 +14,6 @@ mod page;
 mod searching;
 
 pub use searching::search;
+
+#[cfg(test)]
+mod tests;

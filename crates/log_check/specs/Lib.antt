@@ -1,0 +1,4 @@
+pub mod Forms
+pub mod Checking
+pub mod Batches
+pub mod Walks

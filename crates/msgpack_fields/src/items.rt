@@ -59,7 +59,7 @@ fn is_text(bytes: &[u8]) -> bool
 
 #[tactic(auto, unfolding(definitions::specs::Reading::integer_at))]
 #[inline(always)]
-fn integer_at_front(bytes: &[u8]) -> Option<(i128, &[u8])>
+fn leading_integer(bytes: &[u8]) -> Option<(i128, &[u8])>
     ensures value { option_map (λ x. (x.0, x.1.now)) result ≡ integer_at bytes.now }
     ensures shorter { IfSome result (λ x. length x.1.now ≤ length bytes.now) }
 {
@@ -97,7 +97,7 @@ fn text_head_of(bytes: &[u8]) -> Option<(u32, &[u8])>
 
 #[tactic(auto, unfolding(definitions::specs::Reading::text_at))]
 #[inline(always)]
-fn text_at_front(bytes: &[u8]) -> Option<(&[u8], &[u8])>
+fn leading_text(bytes: &[u8]) -> Option<(&[u8], &[u8])>
     ensures value { option_map (λ x. (x.0.now, x.1.now)) result ≡ text_at bytes.now }
     ensures shorter { IfSome result (λ x. length x.1.now ≤ length bytes.now) }
 {
@@ -130,7 +130,7 @@ fn bin_head_of(bytes: &[u8]) -> Option<(u32, &[u8])>
 }
 
 #[tactic(auto, unfolding(payload_rules::specs::Reading::bin_at))]
-fn bin_at_front(bytes: &[u8]) -> Option<(&[u8], &[u8])>
+fn leading_bin(bytes: &[u8]) -> Option<(&[u8], &[u8])>
     ensures value { option_map (λ x. (x.0.now, x.1.now)) result ≡ bin_at bytes.now }
     ensures shorter { IfSome result (λ x. length x.1.now ≤ length bytes.now) }
 {
@@ -143,7 +143,7 @@ fn bin_at_front(bytes: &[u8]) -> Option<(&[u8], &[u8])>
 }
 
 #[tactic(auto, unfolding(definitions::specs::Reading::array_at))]
-fn array_at_front(bytes: &[u8]) -> Option<(u32, &[u8])>
+fn leading_array(bytes: &[u8]) -> Option<(u32, &[u8])>
     ensures value { option_map (λ x. (x.0, x.1.now)) result ≡ array_at bytes.now }
     ensures shorter { IfSome result (λ x. length x.1.now ≤ length bytes.now) }
 {
@@ -165,7 +165,7 @@ pub fn integer_of(bytes: &[u8]) -> Option<(i128, &[u8])>
     ensures value { option_map (λ x. (x.0, x.1.now)) result ≡ integer_at bytes.now }
     ensures shorter { IfSome result (λ x. length x.1.now ≤ length bytes.now) }
 {
-    integer_at_front(bytes)
+    leading_integer(bytes)
 }
 
 /// The text at the front, in any of its spellings, and what stands behind it.
@@ -178,7 +178,7 @@ pub fn text_of(bytes: &[u8]) -> Option<(&[u8], &[u8])>
     ensures value { option_map (λ x. (x.0.now, x.1.now)) result ≡ text_at bytes.now }
     ensures shorter { IfSome result (λ x. length x.1.now ≤ length bytes.now) }
 {
-    text_at_front(bytes)
+    leading_text(bytes)
 }
 
 /// The number of items in the header of an array at the front, in any of its spellings, and what stands behind it.
@@ -188,7 +188,7 @@ pub fn array_of(bytes: &[u8]) -> Option<(u32, &[u8])>
     ensures value { option_map (λ x. (x.0, x.1.now)) result ≡ array_at bytes.now }
     ensures shorter { IfSome result (λ x. length x.1.now ≤ length bytes.now) }
 {
-    array_at_front(bytes)
+    leading_array(bytes)
 }
 
 /// What the bin at the front holds, in any of its spellings, and what stands behind it.
@@ -198,7 +198,7 @@ pub fn bin_of(bytes: &[u8]) -> Option<(&[u8], &[u8])>
     ensures value { option_map (λ x. (x.0.now, x.1.now)) result ≡ bin_at bytes.now }
     ensures shorter { IfSome result (λ x. length x.1.now ≤ length bytes.now) }
 {
-    bin_at_front(bytes)
+    leading_bin(bytes)
 }
 
 /// The number at the front that isn't negative, in any of its spellings, and what stands behind it.
@@ -218,7 +218,7 @@ fn number_of(bytes: &[u8]) -> Option<(u64, &[u8])>
 
 #[tactic(auto, unfolding(crate::specs::Reading::nil_or_at))]
 #[inline(always)]
-fn nil_or_u64_at_front(bytes: &[u8]) -> Option<(Option<u64>, &[u8])>
+fn leading_nil_or_u64(bytes: &[u8]) -> Option<(Option<u64>, &[u8])>
     ensures value { option_map (λ x. (x.0, x.1.now)) result ≡ nil_or_at number_at bytes.now }
     ensures shorter { IfSome result (λ x. length x.1.now ≤ length bytes.now) }
 {
@@ -231,7 +231,7 @@ fn nil_or_u64_at_front(bytes: &[u8]) -> Option<(Option<u64>, &[u8])>
 }
 
 #[tactic(auto, unfolding(crate::specs::Reading::nil_or_at))]
-fn nil_or_text_at_front(bytes: &[u8]) -> Option<(Option<&[u8]>, &[u8])>
+fn leading_nil_or_text(bytes: &[u8]) -> Option<(Option<&[u8]>, &[u8])>
     ensures value { option_map (λ x. (option_map (λ t. t.now) x.0, x.1.now)) result ≡ nil_or_at text_at bytes.now }
     ensures shorter { IfSome result (λ x. length x.1.now ≤ length bytes.now) }
 {
@@ -239,7 +239,7 @@ fn nil_or_text_at_front(bytes: &[u8]) -> Option<(Option<&[u8]>, &[u8])>
     if *first == NIL {
         return Some((None, rest));
     }
-    let (text, rest) = text_at_front(bytes)?;
+    let (text, rest) = leading_text(bytes)?;
     Some((Some(text), rest))
 }
 
@@ -251,7 +251,7 @@ pub fn nil_or_u64_of(bytes: &[u8]) -> Option<(Option<u64>, &[u8])>
     ensures value { option_map (λ x. (x.0, x.1.now)) result ≡ nil_or_at number_at bytes.now }
     ensures shorter { IfSome result (λ x. length x.1.now ≤ length bytes.now) }
 {
-    nil_or_u64_at_front(bytes)
+    leading_nil_or_u64(bytes)
 }
 
 /// Nil, or the text at the front, in any of its spellings, and what stands behind it.
@@ -262,5 +262,5 @@ pub fn nil_or_text_of(bytes: &[u8]) -> Option<(Option<&[u8]>, &[u8])>
     ensures value { option_map (λ x. (option_map (λ t. t.now) x.0, x.1.now)) result ≡ nil_or_at text_at bytes.now }
     ensures shorter { IfSome result (λ x. length x.1.now ≤ length bytes.now) }
 {
-    nil_or_text_at_front(bytes)
+    leading_nil_or_text(bytes)
 }

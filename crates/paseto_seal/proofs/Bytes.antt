@@ -17,16 +17,16 @@ append_bytes [] ys are_xs are_ys i = are_ys i
 append_bytes (x ∷ xs) ys are_xs are_ys i =
     one_more_byte x (xs ++ ys) (are_xs 0) (append_bytes xs ys (λ k. are_xs (suc k)) are_ys) i
 
-pub front_bytes : (xs ys : List ℕ) → IsBytes (xs ++ ys) → IsBytes xs
-front_bytes [] ys are i = no_bytes i
-front_bytes (x ∷ xs) ys are i = one_more_byte x xs (are 0) (front_bytes xs ys (λ k. are (suc k))) i
+pub leading_bytes : (xs ys : List ℕ) → IsBytes (xs ++ ys) → IsBytes xs
+leading_bytes [] ys are i = no_bytes i
+leading_bytes (x ∷ xs) ys are i = one_more_byte x xs (are 0) (leading_bytes xs ys (λ k. are (suc k))) i
 
-pub back_bytes : (xs ys : List ℕ) → IsBytes (xs ++ ys) → IsBytes ys
-back_bytes [] ys are i = are i
-back_bytes (x ∷ xs) ys are i = back_bytes xs ys (λ k. are (suc k)) i
+pub trailing_bytes : (xs ys : List ℕ) → IsBytes (xs ++ ys) → IsBytes ys
+trailing_bytes [] ys are i = are i
+trailing_bytes (x ∷ xs) ys are i = trailing_bytes xs ys (λ k. are (suc k)) i
 
 pub take_bytes : (n : ℕ) (xs : List ℕ) → IsBytes xs → IsBytes (take n xs)
-take_bytes n xs are = front_bytes (take n xs) (drop n xs) (subst IsBytes (sym (take-append-drop n xs)) are)
+take_bytes n xs are = leading_bytes (take n xs) (drop n xs) (subst IsBytes (sym (take-append-drop n xs)) are)
 
 -- a number written low byte first
 pub low_first_bytes : (from count n : ℕ) → IsBytes (bytes_low_first from count n)

@@ -6,7 +6,7 @@ use Rattle.paseto_seal.specs.Base64Url.{base64url, Carries}
 use Rattle.paseto_seal.specs.Token.{token_header, token_secrets, token_auth_key, token_cipher, token_tag, token_body, token, IsTokenForm, Opens}
 use Rattle.paseto_seal.specs.Pae.{pae}
 use Rattle.xchacha_core.proofs.StreamLaws.{length-xchacha20, xchacha20-bytes, xchacha20-xchacha20}
-use Rattle.paseto_seal.proofs.Bytes.{append_bytes, front_bytes, back_bytes}
+use Rattle.paseto_seal.proofs.Bytes.{append_bytes, leading_bytes, trailing_bytes}
 use Rattle.paseto_seal.proofs.Base64UrlLaws.{carries_one, length-base64url}
 use Rattle.paseto_seal.proofs.HashLaws.{length-blake2b, blake2b_bytes}
 use Rattle.paseto_seal.proofs.Parts.{same_parts, same_parts_back}
@@ -89,9 +89,9 @@ tag_opens key text implicit body nonce cipher tag carried body_is long tag_is =
     ∙ ap (λ c. nonce ++ (c ++ token_tag key nonce c implicit)) (sym (token_cipher_twice key nonce cipher)) in
     record {
       nonce = nonce;
-      nonce_bytes = front_bytes nonce (cipher ++ tag) are;
+      nonce_bytes = leading_bytes nonce (cipher ++ tag) are;
       nonce_length = long;
-      message_bytes = token_cipher_bytes key nonce cipher (front_bytes cipher tag (back_bytes nonce (cipher ++ tag) are));
+      message_bytes = token_cipher_bytes key nonce cipher (leading_bytes cipher tag (trailing_bytes nonce (cipher ++ tag) are));
       text_is = carried.text_is ∙ ap (λ b. token_header ++ base64url b) same;
     }
 

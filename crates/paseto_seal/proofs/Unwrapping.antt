@@ -9,7 +9,7 @@ use Rattle.paseto_seal.specs.Opening.{UnwrapsKey}
 use Rattle.paseto_seal.specs.declared.carried.CarryFail.{CarryFail}
 use Rattle.paseto_seal.specs.declared.carried.CarryFail.TheVariants.{NotCarried, NoMemory}
 use Rattle.xchacha_core.proofs.StreamLaws.{length-xchacha20, xchacha20-bytes, xchacha20-xchacha20}
-use Rattle.paseto_seal.proofs.Bytes.{append_bytes, front_bytes, back_bytes}
+use Rattle.paseto_seal.proofs.Bytes.{append_bytes, leading_bytes, trailing_bytes}
 use Rattle.paseto_seal.proofs.Base64UrlLaws.{carries_one, length-base64url}
 use Rattle.paseto_seal.proofs.HashLaws.{length-blake2b, blake2b_bytes}
 use Rattle.paseto_seal.proofs.Parts.{same_parts}
@@ -78,15 +78,15 @@ pub tag_unwraps : (by text body tag nonce cipher : List ℕ) → Carries wrap_he
 unfolding wrap
 tag_unwraps by text body tag nonce cipher carried body_is nonce_long cipher_long tag_is =
     let are : IsBytes (tag ++ (nonce ++ cipher)) = subst IsBytes body_is carried.body_bytes in
-    let inner = back_bytes tag (nonce ++ cipher) are in
+    let inner = trailing_bytes tag (nonce ++ cipher) are in
     let same : body ≡ wrap_body by nonce (wrap_cipher by nonce cipher) =
     body_is ∙ ap (λ t. t ++ (nonce ++ cipher)) tag_is
     ∙ ap (λ c. wrap_tag by nonce c ++ (nonce ++ c)) (sym (wrap_cipher_twice by nonce cipher)) in
     record {
       nonce = nonce;
-      nonce_bytes = front_bytes nonce cipher inner;
+      nonce_bytes = leading_bytes nonce cipher inner;
       nonce_length = nonce_long;
-      key_bytes = wrap_cipher_bytes by nonce cipher (back_bytes nonce cipher inner);
+      key_bytes = wrap_cipher_bytes by nonce cipher (trailing_bytes nonce cipher inner);
       key_length = length-wrap_cipher by nonce cipher ∙ cipher_long;
       text_is = carried.text_is ∙ ap (λ b. wrap_header ++ base64url b) same;
     }

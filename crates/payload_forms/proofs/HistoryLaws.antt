@@ -157,10 +157,10 @@ texts_from version_1 (command, (cwd, (session, (hostname, (deleted_at, author)))
 
 -- ---- a command
 
-abbrev front_items : Version → List Item
-front_items version = an_integer (pos (layout_number version)) ∷ an_array (layout_items version) ∷ []
+abbrev leading_items : Version → List Item
+leading_items version = an_integer (pos (layout_number version)) ∷ an_array (layout_items version) ∷ []
 
-items_are : (version : Version) (n : Numbers) (t : Texts) → front_items version ++ (numbers_items n ++ texts_items version t) ≡ history_items version (history_of n t)
+items_are : (version : Version) (n : Numbers) (t : Texts) → leading_items version ++ (numbers_items n ++ texts_items version t) ≡ history_items version (history_of n t)
 items_are version_0 n t = refl
 items_are version_1 n t = refl
 
@@ -223,10 +223,10 @@ history_takes version held h are e =
     let array : SpellsItem (an_array (layout_items version)) b.0 = subst (λ (n : ℕ). SpellsArray n b.0) (eqb-true p.items.0 (layout_items version) b.1.0) b.1.1 in
     let numbers = numbers_spelled p.numbers.0 c.0 c.1 in
     let texts = texts_spelled version p.texts p.numbers.1 d in
-    let front : SpellsItems (front_items version) (a.0 ++ b.0) = (a.0, b.0, number, last_item (an_array (layout_items version)) b.0 array, refl) in
+    let front : SpellsItems (leading_items version) (a.0 ++ b.0) = (a.0, b.0, number, last_item (an_array (layout_items version)) b.0 array, refl) in
     let items : SpellsItems (history_items version (history_of p.numbers.0 p.texts)) ((a.0 ++ b.0) ++ (c.0 ++ p.numbers.1)) =
     subst (λ (is : List Item). SpellsItems is ((a.0 ++ b.0) ++ (c.0 ++ p.numbers.1))) (items_are version p.numbers.0 p.texts)
-    (items_append (front_items version) (numbers_items p.numbers.0 ++ texts_items version p.texts) (a.0 ++ b.0) (c.0 ++ p.numbers.1) front (items_append (numbers_items p.numbers.0) (texts_items version p.texts) c.0 p.numbers.1 numbers.0 texts.0)) in
+    (items_append (leading_items version) (numbers_items p.numbers.0 ++ texts_items version p.texts) (a.0 ++ b.0) (c.0 ++ p.numbers.1) front (items_append (numbers_items p.numbers.0) (texts_items version p.texts) c.0 p.numbers.1 numbers.0 texts.0)) in
     let parts : held ≡ (a.0 ++ b.0) ++ (c.0 ++ p.numbers.1) =
     a.2.parts ∙ ap (λ (l : List ℕ). a.0 ++ l) (b.2.parts ∙ ap (λ (l : List ℕ). b.0 ++ l) c.2.parts) ∙ sym (append_assoc a.0 b.0 (c.0 ++ p.numbers.1)) in
     subst (λ (k : HistoryRecord). SpellsHistory version k held) p.is (record {
@@ -248,8 +248,8 @@ itself n = eq-eqb n n refl
 pub history_again : (version : Version) (held : List ℕ) (h : HistoryRecord) → SpellsHistory version h held → history_at version held ≡ Some h
 unfolding history_at texts_at
 history_again version held h s =
-    let listed : SpellsItems (front_items version ++ (numbers_items (numbers_in h) ++ texts_items version (texts_in h))) held = subst (λ (is : List Item). SpellsItems is held) (sym (items_are version (numbers_in h) (texts_in h))) s.items in
-    let one = items_split (front_items version) (numbers_items (numbers_in h) ++ texts_items version (texts_in h)) held listed in
+    let listed : SpellsItems (leading_items version ++ (numbers_items (numbers_in h) ++ texts_items version (texts_in h))) held = subst (λ (is : List Item). SpellsItems is held) (sym (items_are version (numbers_in h) (texts_in h))) s.items in
+    let one = items_split (leading_items version) (numbers_items (numbers_in h) ++ texts_items version (texts_in h)) held listed in
     let two = items_split (numbers_items (numbers_in h)) (texts_items version (texts_in h)) one.back one.behind in
     let array : SpellsItem (an_array (layout_items version)) one.first.1 = last_spelled (an_array (layout_items version)) one.first.1 one.first.3 in
     let numbers : SpellsNumbers (numbers_in h) two.front = numbers_from (numbers_in h) two.front two.first (record { id = s.fits.id; timestamp = s.fits.timestamp; duration = s.fits.duration; exit = s.fits.exit }) in

@@ -12,7 +12,7 @@ use Rattle.json.proofs.Printed.Trees.{ArePrintable-json_tokens, value-json_token
 use Rattle.json.specs.Json as json
 use Rattle.json.specs.Print.{escape, print}
 use Rattle.json.specs.Tree.{HasNumbers, depth, json_tokens}
-use Rattle.paseto_seal.proofs.Bytes.{back_bytes, take_bytes}
+use Rattle.paseto_seal.proofs.Bytes.{trailing_bytes, take_bytes}
 use Rattle.paseto_seal.proofs.HashLaws.{blake2b_bytes}
 use Rattle.paseto_seal.proofs.Unwrapping.{wrap_body_bytes}
 use Rattle.paseto_seal.specs.Base64Url.{base64url}
@@ -40,7 +40,7 @@ ascii_bytes : (xs : List ℕ) → IsAscii xs → IsBytes xs
 ascii_bytes xs ascii = λ i. let below = ascii i in omega arith
 
 drop_bytes : (n : ℕ) (xs : List ℕ) → IsBytes xs → IsBytes (drop n xs)
-drop_bytes n xs are = back_bytes (take n xs) (drop n xs) (subst IsBytes (sym (take-append-drop n xs)) are)
+drop_bytes n xs are = trailing_bytes (take n xs) (drop n xs) (subst IsBytes (sym (take-append-drop n xs)) are)
 
 -- ---- the message
 

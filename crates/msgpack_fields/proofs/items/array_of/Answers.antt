@@ -7,8 +7,8 @@ use Rattle.msgpack_fields.proofs.items.array_of.Goals as goal
 
 pub returns-clause-spelled : goal.returns-clause-spelled
 returns-clause-spelled c =
-    found_is_spelled ℕ (ℕ × Bor (List ℕ)) array_at SpellsArray arrays_read (λ x. (x.0, x.1.now)) c.args.bytes.now c.array_at_front.result (λ i. omega (arith, c.type_inv.bytes i)) c.array_at_front.ensures.value
+    found_is_spelled ℕ (ℕ × Bor (List ℕ)) array_at SpellsArray arrays_read (λ x. (x.0, x.1.now)) c.args.bytes.now c.leading_array.result (λ i. omega (arith, c.type_inv.bytes i)) c.leading_array.ensures.value
 
 pub returns-clause-none : goal.returns-clause-none
 returns-clause-none c =
-    none_is_spelled ℕ (ℕ × Bor (List ℕ)) array_at SpellsArray arrays_read (λ x. (x.0, x.1.now)) c.args.bytes.now c.array_at_front.result c.array_at_front.ensures.value
+    none_is_spelled ℕ (ℕ × Bor (List ℕ)) array_at SpellsArray arrays_read (λ x. (x.0, x.1.now)) c.args.bytes.now c.leading_array.result c.leading_array.ensures.value

@@ -2,3 +2,4 @@ pub mod Walks
 pub mod Memos
 pub mod Needles
 pub mod Answering
+pub mod Folds

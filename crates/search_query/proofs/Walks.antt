@@ -3,7 +3,7 @@ use Rattle.std.proofs.Common.{◌≡◌, ℕ, zero, suc, ◌+◌, ◌-◌, ◌�
 use Rattle.std.specs.List.{filter, filter_map, cons_option, All, AllByRecursion}
 use Rattle.std.proofs.lemmas.Option.{slice_get_within, get_or_from_slice_get}
 use Rattle.std.proofs.Math.Seq.{drop-nil}
-use Rattle.std.proofs.lemmas.List.{append_assoc}
+use Rattle.std.proofs.lemmas.List.{append_assoc, length-append, length-map}
 use Rattle.definitions.specs.Journal.{HistoryRecord}
 use Rattle.definitions.specs.Search.{hit_bytes, FitsPage}
 use Rattle.record_model.specs.declared.asking.Query.{Query}
@@ -230,6 +230,20 @@ module _ (query : Query) (s : ViewState) where
         begins = sym whole_of ∙ sym way.whole ∙ here query s (walked_in s.order) first w (command_seen h) left way.seen hits skip some none;
         fits = way.fits;
         most = λ next others e fits. full (let same : command_seen h ≡ next = cc in subst (λ (x : HistoryRecord). FitsPage hit_bytes query.limit (seen_of hits ++ x ∷ [])) (sym same) fits);
+      }
+
+  -- as many hits as are shown
+  pub filled : (first : ℕ) (left : List Walked) (memo : List (Option Bool)) (hits : List ShownCommand) (bytes skip steps : ℕ) → IsOnWay query s (walked_in s.order) left memo hits bytes skip first steps → query.limit ≤ length hits → IsAnswerOf query (newest_of s) (seen_of hits)
+  filled first left memo hits bytes skip steps way full =
+      record {
+        rest = drop skip (uniques query.unique (filter_map (hit_at query way.seen s) left));
+        begins = sym whole_of ∙ sym way.whole;
+        fits = way.fits;
+        most = λ next others e fits.
+            let few = fits.0 in
+            let many = length-map hits command_seen in
+            let more = length-append (seen_of hits) (next ∷ []) in
+            omega (arith, full, few, many, more);
       }
 
 -- ---- its beginning

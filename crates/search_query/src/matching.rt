@@ -54,11 +54,14 @@ impl<'a> Matching<'a> {
     ///
     /// # Errors
     ///
-    /// [`NoMemory`], where the command's letters are to be folded.
+    /// [`NoMemory`], where the command has letters to be folded.
     pub fn matches(&self, alloc: Global, command: &[u8]) -> Result<bool, NoMemory>
         ensures { IfOk result (λ b. b ≡ matches_by self.now.mode self.now.text command.now) }
     {
         if self.is_exact {
+            return Ok(is_match(self.mode, &self.finder, self.text, command));
+        }
+        if !has_capital(command) {
             return Ok(is_match(self.mode, &self.finder, self.text, command));
         }
         let folded = folded(alloc, command)?;

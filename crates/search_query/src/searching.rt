@@ -68,6 +68,9 @@ fn walk<'a>(
     let mut skip = query.offset;
     let scope = view.scope(&query.filter);
     for walked in view.newest() {
+        if hits.len() >= query.limit as usize {
+            break;
+        }
         let found = hit(
             view, alloc, query, &scope, matching, &mut memo, walked, steps,
         )?;

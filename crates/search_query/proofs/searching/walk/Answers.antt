@@ -1,5 +1,5 @@
 use Rattle.std.proofs.Common.{arith}
-use Rattle.std.proofs.Common.{List, Option, ap, sym, subst, ◌∙◌, Vec, Global}
+use Rattle.std.proofs.Common.{List, ◌∷◌, Option, ap, sym, subst, ◌∙◌, Vec, Global}
 use Rattle.std.specs.Option.{option_map}
 use Rattle.history_view.specs.declared.walk.Walked.{Walked}
 use Rattle.history_view.specs.declared.walk.Newest.{Newest}
@@ -8,9 +8,9 @@ use Rattle.history_view.specs.Shown.{command_seen}
 use Rattle.history_view.specs.Walk.{walked_in, newest_of}
 use Rattle.search_query.specs.Answers.{IsOnWay, IsAnswerOf, Remembers, seen_of, seen_after, test_of}
 use Rattle.definitions.specs.Journal.{HistoryRecord}
-use Rattle.search_query.proofs.Walks.{begins_walk, passes_over, leaves_out, takes, ends, breaks, tested, tested_so_far}
+use Rattle.search_query.proofs.Walks.{begins_walk, filled, passes_over, leaves_out, takes, ends, breaks, tested, tested_so_far}
 use Rattle.search_query.proofs.searching.walk.Goals as goal
-use Rattle.search_query.proofs.searching.walk.Goals.{in-None, in-Some+in_ok-found+in-Some-found+else-skip-gt0+in_ok-take+then-not-branch}
+use Rattle.search_query.proofs.searching.walk.Goals.{in-None, in-Some+then-len-query, in-Some+else-len-query+in_ok-found+in-Some-found+else-skip-gt0+in_ok-take+then-not-branch}
 
 pub loop-walked-init : goal.loop-walked-init
 loop-walked-init c =
@@ -41,7 +41,11 @@ returns-clause-page c = elim c.match-next.branch [
       let way = subst (λ (ws : List Walked). IsOnWay c.args.query.now c.args.view.now (walked_in c.args.view.now.order) ws c.loop-walked.memo.items c.loop-walked.hits.items c.loop-walked.bytes c.loop-walked.skip c.args.steps.now c.loop-walked.steps) w.in-None.ensures.steps.0 c.loop-walked.invariant in
       let page = ends c.args.query.now c.args.view.now c.args.steps.now c.loop-walked.memo.items c.loop-walked.hits.items c.loop-walked.bytes c.loop-walked.skip c.loop-walked.steps way in
       subst (λ (v : Vec ShownCommand Global). IsAnswerOf c.args.query.now (newest_of c.args.view.now) (seen_of v.items)) (sym w.hits-is) page
-  | in-Some+in_ok-found+in-Some-found+else-skip-gt0+in_ok-take+then-not-branch w ↦
+  | in-Some+then-len-query w ↦
+      let way = subst (λ (ws : List Walked). IsOnWay c.args.query.now c.args.view.now (walked_in c.args.view.now.order) ws c.loop-walked.memo.items c.loop-walked.hits.items c.loop-walked.bytes c.loop-walked.skip c.args.steps.now c.loop-walked.steps) w.in-Some.ensures.steps c.loop-walked.invariant in
+      let page = filled c.args.query.now c.args.view.now c.args.steps.now (w.in-Some.walked ∷ walked_in c.next.new.self.inner) c.loop-walked.memo.items c.loop-walked.hits.items c.loop-walked.bytes c.loop-walked.skip c.loop-walked.steps way (omega (arith, w.len.ensures, w.if-len-query.true)) in
+      subst (λ (v : Vec ShownCommand Global). IsAnswerOf c.args.query.now (newest_of c.args.view.now) (seen_of v.items)) (sym w.hits-is) page
+  | in-Some+else-len-query+in_ok-found+in-Some-found+else-skip-gt0+in_ok-take+then-not-branch w ↦
       let way = subst (λ (ws : List Walked). IsOnWay c.args.query.now c.args.view.now (walked_in c.args.view.now.order) ws c.loop-walked.memo.items c.loop-walked.hits.items c.loop-walked.bytes c.loop-walked.skip c.args.steps.now c.loop-walked.steps) w.in-Some.ensures.steps c.loop-walked.invariant in
       let full = w.in_ok-take.ensures.full w.if-not-branch.true in
       let page = breaks c.args.query.now c.args.view.now c.args.steps.now w.in-Some.walked w.in-Some-found.h (walked_in c.next.new.self.inner) c.loop-walked.memo.items c.loop-walked.hits.items c.loop-walked.bytes c.loop-walked.skip c.loop-walked.steps way
@@ -69,7 +73,12 @@ returns-clause-steps c = elim c.match-next.branch [
       let so_far = tested_so_far c.args.query.now c.args.view.now (walked_in c.loop-walked.walked-iterator.inner) c.loop-walked.memo.items c.loop-walked.hits.items c.loop-walked.bytes c.loop-walked.skip c.args.steps.now c.loop-walked.steps c.loop-walked.invariant in
       let is = w.steps-is in
       omega arith
-  | in-Some+in_ok-found+in-Some-found+else-skip-gt0+in_ok-take+then-not-branch w ↦
+  | in-Some+then-len-query w ↦
+      let way = subst (λ (ws : List Walked). IsOnWay c.args.query.now c.args.view.now (walked_in c.args.view.now.order) ws c.loop-walked.memo.items c.loop-walked.hits.items c.loop-walked.bytes c.loop-walked.skip c.args.steps.now c.loop-walked.steps) w.in-Some.ensures.steps c.loop-walked.invariant in
+      let so_far = tested_so_far c.args.query.now c.args.view.now (w.in-Some.walked ∷ walked_in c.next.new.self.inner) c.loop-walked.memo.items c.loop-walked.hits.items c.loop-walked.bytes c.loop-walked.skip c.args.steps.now c.loop-walked.steps way in
+      let is = w.steps-is in
+      omega arith
+  | in-Some+else-len-query+in_ok-found+in-Some-found+else-skip-gt0+in_ok-take+then-not-branch w ↦
       let way = subst (λ (ws : List Walked). IsOnWay c.args.query.now c.args.view.now (walked_in c.args.view.now.order) ws c.loop-walked.memo.items c.loop-walked.hits.items c.loop-walked.bytes c.loop-walked.skip c.args.steps.now c.loop-walked.steps) w.in-Some.ensures.steps c.loop-walked.invariant in
       let most = tested c.args.query.now c.args.view.now w.in-Some.walked (walked_in c.next.new.self.inner) c.loop-walked.memo.items c.loop-walked.hits.items c.loop-walked.bytes c.loop-walked.skip c.args.steps.now c.loop-walked.steps way in
       let few = w.hit.ensures.steps in

@@ -3,3 +3,5 @@ pub mod Outcomes
 pub mod Created
 pub mod Sizes
 pub mod ReadBack
+pub mod Heads
+pub mod Opened

@@ -3,3 +3,4 @@ pub mod Ready
 pub mod Journals
 pub mod Creating
 pub mod Reading
+pub mod Opening

@@ -14,19 +14,24 @@
 //! by the offsets of their gates. Bytes there that are no such batch can come only from a disk that doesn't tell; they are
 //! answered as a fault of that disk, which counts it.
 //!
-//! Still to come: opening a log that stands on a disk.
+//! A log that stands on a disk is opened by a sync and a walk over its batches, each of which is checked; a disk that shows no
+//! sound log is refused, with the cause.
 //!
-//! Stands on `at_edge` for disks, `log_format` for bytes, and the words of `log_rules` and `crash_rules`.
+//! Stands on `at_edge` for disks, `log_format` for bytes, `log_check` for the walk, and the words of `log_rules` and
+//! `crash_rules`.
 #![tactic(auto)]
 
 mod create;
 mod halves;
+mod headers;
+mod opening;
 mod reading;
 mod ready;
 mod record_log;
 mod spots;
 
 pub use create::CreateFail;
+pub use opening::OpenFail;
 pub use reading::ReadFail;
 pub use ready::Ready;
 pub use record_log::RecordLog;

@@ -21,7 +21,7 @@ pub enum ReadFail {
     NoMemory,
 }
 
-fn zeros(alloc: Global, count: usize) -> Result<Vec<u8>, AllocError>
+pub(crate) fn zeros(alloc: Global, count: usize) -> Result<Vec<u8>, AllocError>
     ensures { IfOk result (λ bytes. length bytes.items ≡ count) }
 {
     Ok(vec![in alloc; 0; count]?)

@@ -9,9 +9,11 @@ ghost use Rattle.record_model.specs.Seen.{events_seen};
 ghost use Rattle.at_edge.specs.Storing.{Rests};
 ghost use Rattle.record_log.specs.Journals.{HasJournal, KeepsFront, Settles, Appends};
 ghost use Rattle.record_log.specs.Creating.{HasCause, WasEmpty};
+ghost use Rattle.record_log.specs.Opening.{LeavesNoMore, Opened, OpenCause};
 
 use crate::create::{CreateFail, write_first};
 use crate::halves::{open_gate, stage};
+use crate::opening::{OpenFail, find_log};
 use crate::reading::{ReadFail, read_batch_at, read_one};
 use crate::ready::Ready;
 use crate::spots::Spot;
@@ -79,6 +81,36 @@ impl<D: Disk> RecordLog<D> {
             gate: FIRST_GATE,
             doubt: None,
         })
+    }
+
+    /// The log that stands on a disk. It syncs first and writes nothing; bodies are read in pieces of at most 65,536 bytes, and
+    /// each event is dropped once it was checked. It is the log of the events that the disk shows, and nothing is in doubt.
+    ///
+    /// # Errors
+    ///
+    /// The disk comes back. [`OpenFail::NotALog`] exactly where it begins with no log's header, and [`OpenFail::OldLog`] exactly
+    /// where it begins with that of an older one; [`OpenFail::Damaged`] exactly where the batch at that offset is the first that
+    /// is no good one; [`OpenFail::DiskFault`] only where its count of faults rose; [`OpenFail::NoMemory`].
+    pub fn open_on(alloc: Global, disk: D) -> Result<Self, (OpenFail, D)>
+        ensures opens { MatchResult result (λ log. Opened (D.disk disk) log) (λ e. OpenCause e.0 (D.disk disk) (D.disk e.1)) }
+        ensures settled { IfOk result (λ log. log.doubt ≡ None) }
+        ensures crash { MatchResult result (λ log. LeavesNoMore (D.disk disk).history log.disk.history) (λ e. LeavesNoMore (D.disk disk).history (D.disk e.1).history) }
+        ensures silent { (D.disk disk).history ≡ None → IfOk result (λ log. log.disk.history ≡ None) }
+    {
+        let mut disk = disk;
+        match disk.sync() {
+            Ok(()) => {}
+            Err(_) => return Err((OpenFail::DiskFault, disk)),
+        }
+        match find_log(alloc, &mut disk) {
+            Ok((host, gate)) => Ok(RecordLog {
+                disk,
+                host,
+                gate,
+                doubt: None,
+            }),
+            Err(fail) => Err((fail, disk)),
+        }
     }
 
     /// Whether a batch is in doubt.

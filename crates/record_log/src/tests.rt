@@ -1,12 +1,14 @@
 ghost use Rattle.std.specs.Prelude.{◌≡◌, None, length, IfOk, All};
 ghost use Rattle.record_rules.specs.Journal.{EventFits};
 ghost use Rattle.record_model.specs.Seen.{event_seen, events_seen};
+ghost use Rattle.at_edge.specs.DiskViews.{disk_seen};
 
 use super::*;
-use at_edge::MemDisk;
+use at_edge::{FileDisk, MemDisk};
 use plain_types::{NoMemory, Text};
 use record_model::{Event, Record, Started};
 use std::alloc::Global;
+use std::fs;
 use std::process::Abort;
 use std::test::Fail;
 
@@ -183,15 +185,217 @@ fn an_append_that_fails_early_can_be_made_again(rt: HostRuntime) -> Result<(), F
     Ok(())
 }
 
-#[test]
-fn a_silent_disk_is_disowned(rt: HostRuntime) -> Result<(), Fail> {
-    let alloc = rt.alloc();
+/// A new log of host 1 on a disk that doesn't tell.
+fn silent_log<R: Abort>(rt: &R, alloc: Global) -> Result<RecordLog<MemDisk>, Fail>
+    ensures settled { IfOk result (λ log. log.doubt ≡ None) }
+    ensures silent { IfOk result (λ log. log.disk.history ≡ None) }
+{
     let disk = MemDisk::new(alloc, Vec::new(alloc), Vec::new(alloc))?.silent();
-    let Ok(mut log) = RecordLog::create(disk, 1) else {
+    match RecordLog::create(disk, 1) {
+        Ok(log) => Ok(log),
+        Err(_) => panic!(rt; "no log was made"),
+    }
+}
+
+fn is_ls(event: &Event) -> bool {
+    match event {
+        Event::Started(started) => started.id == FIRST_ID,
+        _ => false,
+    }
+}
+
+/// Whether the event at this place in the batch there is the one that begins `ls`.
+fn reads_ls(alloc: Global, log: &mut RecordLog<MemDisk>, spot: Spot, at: u32) -> bool
+    requires { log.old.disk.history ≡ None }
+    ensures silent { log.new.disk.history ≡ None }
+    ensures doubt { log.new.doubt ≡ log.old.doubt }
+{
+    match log.read_event(alloc, spot, at) {
+        Ok(event) => is_ls(&event),
+        Err(_) => false,
+    }
+}
+
+/// The number of events in the batch whose gate stands there, and the offset of the next gate.
+fn batch_there(alloc: Global, log: &mut RecordLog<MemDisk>, offset: u64) -> Option<(usize, u64)>
+    requires silent { log.old.disk.history ≡ None }
+    requires settled { log.old.doubt ≡ None }
+    ensures silent { log.new.disk.history ≡ None }
+    ensures settled { log.new.doubt ≡ None }
+{
+    match log.batch_at(alloc, offset) {
+        Ok(Some((events, _, next))) => Some((events.as_slice().len(), next)),
+        Ok(None) => Some((0, offset)),
+        Err(_) => None,
+    }
+}
+
+#[test]
+fn a_batch_is_read_back(rt: HostRuntime) -> Result<(), Fail> {
+    let alloc = rt.alloc();
+    let mut log = silent_log(&rt, alloc)?;
+    let begins = log.ready(alloc, &ls_begins(alloc)?)?;
+    let Ok(spot) = log.append(begins) else {
         assert!(rt; false);
         return Ok(());
     };
+    assert!(rt; reads_ls(alloc, &mut log, spot, 0));
+    assert!(rt; batch_there(alloc, &mut log, 32) == Some((1, 106)));
+    assert!(rt; batch_there(alloc, &mut log, 106) == Some((0, 106)));
+    // No event stands behind the batch's only one, and none at another spot.
+    assert!(rt; !reads_ls(alloc, &mut log, spot, 1));
+    let off = Spot {
+        offset: 33,
+        count: 53,
+    };
+    assert!(rt; !reads_ls(alloc, &mut log, off, 0));
     assert!(rt; log.disown() == at_edge::DiskFault);
-    assert!(rt; log.into_disk().shows().len() == 33);
+    Ok(())
+}
+
+/// Why no log is opened on a disk of these bytes, or `None` where one is.
+fn open_fail(alloc: Global, bytes: &[u8]) -> Result<Option<OpenFail>, Fail> {
+    let disk = MemDisk::new(alloc, bytes.to_vec(alloc)?, Vec::new(alloc))?;
+    match RecordLog::open_on(alloc, disk) {
+        Ok(_) => Ok(None),
+        Err((fail, _)) => Ok(Some(fail)),
+    }
+}
+
+/// The same of the new log with this byte in place of the one at `at`.
+fn open_fail_with(alloc: Global, at: usize, byte: u8) -> Result<Option<OpenFail>, Fail> {
+    let mut bytes = NEW_LOG;
+    if at < 33 {
+        bytes[at] = byte;
+    }
+    open_fail(alloc, &bytes)
+}
+
+#[test]
+fn a_log_is_opened_by_its_header(rt: HostRuntime) -> Result<(), Fail> {
+    let alloc = rt.alloc();
+    assert!(rt; open_fail(alloc, &NEW_LOG)? == None);
+    assert!(rt; open_fail(alloc, &NEW_LOG[..32])? == Some(OpenFail::NotALog));
+    assert!(rt; open_fail(alloc, &[])? == Some(OpenFail::NotALog));
+    assert!(rt; open_fail_with(alloc, 6, 0x31)? == Some(OpenFail::NotALog));
+    assert!(rt; open_fail_with(alloc, 31, 1)? == Some(OpenFail::NotALog));
+    assert!(rt; open_fail_with(alloc, 7, 0x31)? == Some(OpenFail::OldLog));
+    // A gate that is open before nothing.
+    assert!(rt; open_fail_with(alloc, 32, 1)? == Some(OpenFail::Damaged { offset: 32 }));
+    // The sync fails, or the length can't be told.
+    for number in 1..3 {
+        let disk = MemDisk::new(alloc, NEW_LOG.to_vec(alloc)?, vec![in alloc; number; 1]?)?;
+        assert!(rt;
+            matches!(
+                &RecordLog::open_on(alloc, disk),
+                Err((OpenFail::DiskFault, _))
+            )
+        );
+    }
+    Ok(())
+}
+
+/// The log that stands on that disk, which doesn't tell.
+fn opened<R: Abort>(rt: &R, alloc: Global, disk: MemDisk) -> Result<RecordLog<MemDisk>, Fail>
+    requires { (disk_seen disk).history ≡ None }
+    ensures settled { IfOk result (λ log. log.doubt ≡ None) }
+    ensures silent { IfOk result (λ log. log.disk.history ≡ None) }
+{
+    match RecordLog::open_on(alloc, disk) {
+        Ok(log) => Ok(log),
+        Err(_) => panic!(rt; "no log was opened"),
+    }
+}
+
+#[test]
+fn a_log_is_opened_with_its_batches(rt: HostRuntime) -> Result<(), Fail> {
+    let alloc = rt.alloc();
+    let mut log = silent_log(&rt, alloc)?;
+    let begins = log.ready(alloc, &ls_begins(alloc)?)?;
+    assert!(rt; log.append(begins).is_ok());
+    let mut log = opened(&rt, alloc, log.into_disk())?;
+    assert!(rt; log.host() == 1);
+    assert!(rt; batch_there(alloc, &mut log, 32) == Some((1, 106)));
+    let ends = log.ready(alloc, &ls_ends(alloc)?)?;
+    assert!(rt; log.append(ends).is_ok());
+    let mut log = opened(&rt, alloc, log.into_disk())?;
+    assert!(rt; batch_there(alloc, &mut log, 106) == Some((1, 228)));
+    assert!(rt; batch_there(alloc, &mut log, 228) == Some((0, 228)));
+    Ok(())
+}
+
+/// How many events the first batch has of a log that is opened after a crash, which left this image of an append whose call of
+/// that number failed.
+fn left_by_crash<R: Abort>(
+    rt: &R,
+    alloc: Global,
+    number: u64,
+    pick: u64,
+) -> Result<Option<usize>, Fail> {
+    let mut log = new_log(rt, alloc, vec![in alloc; number; 1]?)?;
+    let begins = log.ready(alloc, &ls_begins(alloc)?)?;
+    if log.append(begins).is_ok() {
+        return Ok(None);
+    }
+    let image = log.into_disk().crash(alloc, pick)?.silent();
+    let mut log = opened(rt, alloc, image)?;
+    match batch_there(alloc, &mut log, 32) {
+        Some((count, _)) => Ok(Some(count)),
+        None => Ok(None),
+    }
+}
+
+#[test]
+fn a_crash_leaves_a_batch_whole_or_not_at_all(rt: HostRuntime) -> Result<(), Fail> {
+    let alloc = rt.alloc();
+    // The write of the batch, its sync, and the write of the gate.
+    for number in 4..7 {
+        for pick in 0..3 {
+            assert!(rt; left_by_crash(&rt, alloc, number, pick)? == Some(0));
+        }
+    }
+    // The sync of the gate: it is closed in the first image, open in the second, and torn open in the third.
+    assert!(rt; left_by_crash(&rt, alloc, 7, 0)? == Some(0));
+    assert!(rt; left_by_crash(&rt, alloc, 7, 1)? == Some(1));
+    assert!(rt; left_by_crash(&rt, alloc, 7, 2)? == Some(1));
+    Ok(())
+}
+
+/// A file that a test makes and removes.
+const PATH: &str = "record_log_of_a_test";
+
+#[test]
+fn a_file_is_opened_again(rt: HostRuntime) -> Result<(), Fail> {
+    let alloc = rt.alloc();
+    // A run that stopped in the middle may have left it.
+    let _ = fs::remove_file(&rt, PATH);
+    let Ok(mut log) = RecordLog::create(FileDisk::new(&rt, PATH), 1) else {
+        assert!(rt; false);
+        return Ok(());
+    };
+    let begins = log.ready(alloc, &ls_begins(alloc)?)?;
+    assert!(rt; log.append(begins).is_ok());
+    drop(log);
+    let Ok(mut again) = RecordLog::open_on(alloc, FileDisk::new(&rt, PATH)) else {
+        assert!(rt; false);
+        return Ok(());
+    };
+    let ends = again.ready(alloc, &ls_ends(alloc)?)?;
+    assert!(rt;
+        again.append(ends)
+            == Ok(Spot {
+                offset: 106,
+                count: 101
+            })
+    );
+    drop(again);
+    // A device that takes no byte.
+    assert!(rt;
+        matches!(
+            &RecordLog::open_on(alloc, FileDisk::new(&rt, "/dev/full")),
+            Err((OpenFail::DiskFault, _))
+        )
+    );
+    fs::remove_file(&rt, PATH)?;
     Ok(())
 }

@@ -1,2 +1,5 @@
+mod Hosts
+mod HostsRead
 mod Pages
+mod StatusesRead
 mod Values

@@ -4,3 +4,5 @@ pub mod Reading
 pub mod Writing
 pub mod Fail
 pub mod Parts
+pub mod Statuses
+pub mod StatusReading

@@ -7,6 +7,7 @@ ghost use Rattle.record_model.specs.Seen.{record_seen, records_seen};
 ghost use Rattle.record_json.specs.Records.{data_tokens, host_tokens, record_tokens, records_text};
 ghost use Rattle.record_json.specs.Writing.{Adds};
 
+use crate::members::text_str;
 use json::Writer;
 use plain_types::{Bytes, NoMemory, Text};
 use record_model::{Record, record_id_text};
@@ -14,16 +15,6 @@ use std::alloc::Global;
 
 /// The most that a record has beyond its weight where no text needs an escape, in bytes.
 const FRAME_BYTES: u64 = 112;
-
-/// The text as a `str`.
-fn text_str(text: &Text) -> &str
-    ensures { result.now ≡ text.now }
-{
-    match str::from_utf8(text.as_bytes()) {
-        Ok(text) => text,
-        Err(_) => unreachable!(),
-    }
-}
 
 /// Adds a member that is a text.
 fn add_text(writer: &mut Writer, name: &str, text: &Text) -> Result<(), NoMemory>

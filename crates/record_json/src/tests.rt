@@ -1,6 +1,6 @@
 use super::*;
 use plain_types::{Bytes, NoMemory, Text};
-use record_model::Record;
+use record_model::{Chain, Record};
 use std::alloc::Global;
 use std::test::*;
 
@@ -114,5 +114,83 @@ fn what_is_no_record_is_refused_at_its_place(rt: HostRuntime) -> Result<(), Fail
     assert_eq!(rt; refused_with(alloc, "1", "null", "]")?, first);
     let second = Some(JsonFail::NotRecords { position: 1 });
     assert_eq!(rt; refused_with(alloc, "1", "\"h\"", ",7]")?, second);
+    Ok(())
+}
+
+const STATUS: &[u8] =
+    b"{\"hosts\":{\"00000000-0000-0000-0000-000000000001\":{\"history\":4,\"kv\":0},\"00000000-0000-0000-0000-000000000002\":{\"kv\":18446744073709551614}}}";
+
+#[test]
+fn a_status_is_written(rt: HostRuntime) -> Result<(), Fail> {
+    let alloc = rt.alloc();
+    let chains = [
+        Chain {
+            host: 1,
+            tag: Text::copied(alloc, b"history")?,
+            count: 5,
+        },
+        Chain {
+            host: 1,
+            tag: Text::copied(alloc, b"kv")?,
+            count: 1,
+        },
+        Chain {
+            host: 2,
+            tag: Text::copied(alloc, b"kv")?,
+            count: u64::MAX,
+        },
+    ];
+    assert_eq!(rt; write_status(alloc, &chains)?.as_slice(), STATUS);
+    assert_eq!(rt;
+        write_status(alloc, &[])?.as_slice(),
+        b"{\"hosts\":{}}".as_slice()
+    );
+    Ok(())
+}
+
+/// What is read of a status, written again.
+fn status_rewritten(alloc: Global, text: &[u8]) -> Result<Bytes, NoMemory> {
+    match read_status(alloc, text) {
+        Ok(chains) => write_status(alloc, &chains),
+        Err(_) => Err(NoMemory),
+    }
+}
+
+fn status_refusal(alloc: Global, text: &[u8]) -> Option<JsonFail> {
+    match read_status(alloc, text) {
+        Ok(_) => None,
+        Err(fail) => Some(fail),
+    }
+}
+
+#[test]
+fn a_status_is_read_in_any_order(rt: HostRuntime) -> Result<(), Fail> {
+    let alloc = rt.alloc();
+    let text =
+        b"{\"more\":1,\"hosts\":{\"00000000000000000000000000000002\":{\"kv\":18446744073709551615},\"00000000-0000-0000-0000-000000000003\":{},\"{00000000-0000-0000-0000-000000000001}\":{\"kv\":0,\"history\":4}}}";
+    assert_eq!(rt; status_rewritten(alloc, text)?.as_slice(), STATUS);
+    assert_eq!(rt;
+        status_refusal(alloc, b"{\"hosts\":{"),
+        Some(JsonFail::NotJson)
+    );
+    Ok(())
+}
+
+#[test]
+fn what_is_no_status_is_refused(rt: HostRuntime) -> Result<(), Fail> {
+    let alloc = rt.alloc();
+    let refused = Some(JsonFail::NotRecords { position: 0 });
+    assert_eq!(rt; status_refusal(alloc, b"{}"), refused);
+    assert_eq!(rt; status_refusal(alloc, b"{\"hosts\":[]}"), refused);
+    assert_eq!(rt; status_refusal(alloc, b"{\"hosts\":{\"x\":{}}}"), refused);
+    let list = b"{\"hosts\":{\"00000000000000000000000000000002\":[]}}";
+    assert_eq!(rt; status_refusal(alloc, list), refused);
+    let text = b"{\"hosts\":{\"00000000000000000000000000000002\":{\"kv\":\"1\"}}}";
+    assert_eq!(rt; status_refusal(alloc, text), refused);
+    let negative = b"{\"hosts\":{\"00000000000000000000000000000002\":{\"kv\":-1}}}";
+    assert_eq!(rt; status_refusal(alloc, negative), refused);
+    let twice =
+        b"{\"hosts\":{\"00000000000000000000000000000002\":{},\"00000000-0000-0000-0000-000000000002\":{}}}";
+    assert_eq!(rt; status_refusal(alloc, twice), refused);
     Ok(())
 }

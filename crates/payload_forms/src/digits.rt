@@ -6,8 +6,8 @@ ghost use Rattle.std.specs.Char.{digit_value};
 ghost use Rattle.std.specs.List.{list_all};
 ghost use Rattle.definitions.specs.Reading.{is_lower_hex, is_id_text, id_value};
 
-/// The number of digits of a command's id.
-const DIGITS: usize = 32;
+/// Half the number of digits of a command's id: so many write a number of 64 bits.
+const HALF: usize = 16;
 
 /// What a hexadecimal digit in lower case counts.
 fn digit_value(byte: u8) -> Option<u8>
@@ -21,14 +21,14 @@ fn digit_value(byte: u8) -> Option<u8>
     }
 }
 
-/// The number that 32 digits write, if all are in lower case.
-fn digits_value(digits: &[u8]) -> Option<u128>
-    requires { length digits.now ≡ 32 }
+/// The number that so many digits write, if all are in lower case.
+fn half_value(digits: &[u8]) -> Option<u64>
+    requires { length digits.now ≡ 16 }
     ensures { MatchOption result (list_all is_lower_hex digits.now ≡ false) (λ value. (list_all is_lower_hex digits.now ≡ true) × (value ≡ id_value digits.now)) }
 {
-    let mut value: u128 = 0;
+    let mut value: u64 = 0;
     for digit in digits {
-        value = value * 16 + u128::from(digit_value(*digit)?);
+        value = value * 16 + u64::from(digit_value(*digit)?);
     }
     Some(value)
 }
@@ -37,9 +37,11 @@ fn digits_value(digits: &[u8]) -> Option<u128>
 pub(crate) fn id_of(text: &[u8]) -> Option<u128>
     ensures { result ≡ (if is_id_text text.now then Some (id_value text.now) else None) }
 {
-    if text.len() == DIGITS {
-        digits_value(text)
-    } else {
-        None
+    if text.len() != 2 * HALF {
+        return None;
     }
+    let (front, back) = text.split_at(HALF);
+    let high = half_value(front)?;
+    let low = half_value(back)?;
+    Some(u128::from(high) * (1 << 64) + u128::from(low))
 }

@@ -1,7 +1,7 @@
 use Rattle.std.specs.Prelude.{◌≡◌, ◌<◌, ◌^◌, true, take}
 use Rattle.std.specs.List.{list_all}
 use Rattle.definitions.specs.Reading.{is_lower_hex, id_value}
-use Rattle.payload_forms.proofs.digits.digits_value.Given as goal
+use Rattle.payload_forms.proofs.digits.half_value.Given as goal
 
 abbrev pub invariant-loop-digit : goal.invariant-loop-digit
 invariant-loop-digit l = record {

@@ -5,3 +5,4 @@ pub mod Sizes
 pub mod ReadBack
 pub mod Heads
 pub mod Opened
+pub mod Ways

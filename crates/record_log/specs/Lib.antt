@@ -4,3 +4,4 @@ pub mod Journals
 pub mod Creating
 pub mod Reading
 pub mod Opening
+pub mod Walking

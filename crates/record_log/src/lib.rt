@@ -12,7 +12,8 @@
 //!
 //! A batch that was appended stands at a [`Spot`], from which its events are read back, and batches are read one behind the other
 //! by the offsets of their gates. Bytes there that are no such batch can come only from a disk that doesn't tell; they are
-//! answered as a fault of that disk, which counts it.
+//! answered as a fault of that disk, which counts it. The laws of [`walk_begins`] and its kin say that such a walk, from the
+//! first gate to the closed one, meets the events of the journal, each once and in order.
 //!
 //! A log that stands on a disk is opened by a sync and a walk over its batches, each of which is checked; a disk that shows no
 //! sound log is refused, with the cause.
@@ -24,6 +25,7 @@
 mod create;
 mod halves;
 mod headers;
+mod laws;
 mod opening;
 mod reading;
 mod ready;
@@ -31,6 +33,7 @@ mod record_log;
 mod spots;
 
 pub use create::CreateFail;
+pub use laws::{walk_begins, walk_ends, walk_goes_on, walk_is_at_a_gate};
 pub use opening::OpenFail;
 pub use reading::ReadFail;
 pub use ready::Ready;

@@ -1,0 +1,5 @@
+use Rattle.record_log.proofs.Ways.{walk_begins}
+use Rattle.record_log.proofs.laws.walk_begins.Goals as goal
+
+pub returns : goal.returns
+returns c = λ log journal has. walk_begins log.disk log.gate log.host journal has.holds

@@ -1,0 +1,5 @@
+use Rattle.record_log.proofs.Ways.{walk_ends}
+use Rattle.record_log.proofs.laws.walk_ends.Goals as goal
+
+pub returns : goal.returns
+returns c = walk_ends

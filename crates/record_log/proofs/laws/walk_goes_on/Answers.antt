@@ -1,0 +1,5 @@
+use Rattle.record_log.proofs.Ways.{walk_goes_on}
+use Rattle.record_log.proofs.laws.walk_goes_on.Goals as goal
+
+pub returns : goal.returns
+returns c = walk_goes_on

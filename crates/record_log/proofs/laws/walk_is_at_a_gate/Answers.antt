@@ -1,0 +1,5 @@
+use Rattle.record_log.proofs.Ways.{walk_is_at_a_gate}
+use Rattle.record_log.proofs.laws.walk_is_at_a_gate.Goals as goal
+
+pub returns : goal.returns
+returns c = walk_is_at_a_gate

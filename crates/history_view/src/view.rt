@@ -15,7 +15,7 @@ ghost use Rattle.definitions.specs.Search.{is_shown_before};
 ghost use Rattle.definitions.specs.Journal.{HaveDistinctIds};
 ghost use Rattle.history_view.specs.Shown.{command_seen};
 ghost use Rattle.std.specs.Option.{option_map};
-ghost use Rattle.std.specs.Prelude.{length};
+ghost use Rattle.std.specs.Prelude.{length, IsSome, Some, slice_get};
 ghost use Rattle.std.specs.List.{filter, filter_map};
 ghost use Rattle.view_rules.specs.Answers.{in_scope};
 ghost use Rattle.history_view.specs.Counts.{Counts, SameCounts, count_of, the_command};
@@ -121,6 +121,14 @@ impl HistoryView {
         ensures distinct { AreDistinct self.now.texts }
     {
         self.texts.len()
+    }
+
+    /// The text of this number. It takes no memory.
+    pub fn text(&self, number: u32) -> &[u8]
+        requires { IsSome (slice_get self.now.texts number) }
+        ensures { slice_get self.now.texts number ≡ Some result.now }
+    {
+        self.texts.text(number)
     }
 
     /// The filter with its text by its number. It takes no memory.

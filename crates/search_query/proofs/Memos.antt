@@ -118,6 +118,16 @@ row_named s w row h e =
     let is : command_of s.texts w.id row.creation ≡ h = same_some (command_of s.texts w.id row.creation) h (ap (option_map (command_of s.texts w.id)) (sym row.shown) ∙ e) in
     ap (λ (numbers : TextNumbers). slice_get s.texts numbers.command) row.numbers ∙ text_of s.texts row.creation.command row.texts.command ∙ ap (λ (k : HistoryRecord). Some k.command) is
 
+pub row_shown : (s : ViewState) (w : Walked) (row : IsRow s w) → shown_command s w.id ≡ Some (command_of s.texts w.id row.creation)
+row_shown s w row = ap (option_map (command_of s.texts w.id)) row.shown
+
+-- the text of its number is that of the command
+pub same_command : (s : ViewState) (w : Walked) → IsRow s w → (text : List ℕ) → slice_get s.texts w.numbers.command ≡ Some text → (h : HistoryRecord) → shown_command s w.id ≡ Some h → text ≡ h.command
+same_command s w row text named h shown = same_some text h.command (sym named ∙ row_named s w row h shown)
+
+pub has_text : (s : ViewState) (w : Walked) (row : IsRow s w) → IsSome (slice_get s.texts w.numbers.command)
+has_text s w row = subst (λ (numbers : TextNumbers). IsSome (slice_get s.texts numbers.command)) (sym row.numbers) row.texts.command
+
 -- what is remembered as no hit is none
 not_new : (a b c : Bool) → false ≡ (b && c) → ((a && b) && c) ≡ false
 not_new true b c e = sym e

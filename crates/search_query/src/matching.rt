@@ -1,8 +1,8 @@
 //! Whether a command matches the text of a query.
 
-ghost use Rattle.std.specs.Prelude.{◌≡◌, IfOk, map, eqb};
+ghost use Rattle.std.specs.Prelude.{◌≡◌, false, IfOk, map, eqb};
 ghost use Rattle.std.specs.Char.{is_ascii_uppercase, to_ascii_lowercase};
-ghost use Rattle.std.specs.List.{list_any};
+ghost use Rattle.std.specs.List.{list_any, starts_with};
 ghost use Rattle.definitions.specs.Search.{matches_by, stands_in};
 ghost use Rattle.record_model.specs.Seen.{mode_seen};
 ghost use Rattle.search_query.specs.Matching.{matched};
@@ -61,6 +61,9 @@ impl<'a> Matching<'a> {
         if self.is_exact {
             return Ok(is_match(self.mode, &self.finder, self.text, command));
         }
+        if let Mode::Prefix = self.mode {
+            return Ok(begins(self.text, command));
+        }
         if !has_capital(command) {
             return Ok(is_match(self.mode, &self.finder, self.text, command));
         }
@@ -85,6 +88,17 @@ fn folded(alloc: Global, text: &[u8]) -> Result<Vec<u8>, NoMemory>
             .map(|byte| byte.to_ascii_lowercase())
             .collect(alloc)?,
     )
+}
+
+/// Whether the text, which has no capital, begins the command with its ASCII letters folded.
+fn begins(text: &[u8], command: &[u8]) -> bool
+    requires { list_any is_ascii_uppercase text.now ≡ false }
+    ensures { result ≡ starts_with eqb (map to_ascii_lowercase command.now) text.now }
+{
+    if command.len() < text.len() {
+        return false;
+    }
+    command[..text.len()].eq_ignore_ascii_case(text)
 }
 
 /// Whether the text begins the command, or stands in it.

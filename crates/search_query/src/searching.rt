@@ -117,21 +117,22 @@ fn hit<'a>(
     if is_miss(memo, walked.numbers.command) {
         return Ok(None);
     }
-    let h = match view.get(walked.id) {
-        Some(h) => h,
-        None => return Ok(None),
-    };
+    let command = view.text(walked.numbers.command);
     if !matches(
         memo,
         alloc,
         walked.numbers.command,
-        h.command,
+        command,
         matching,
         view,
         steps,
     )? {
         return Ok(None);
     }
+    let h = match view.get(walked.id) {
+        Some(h) => h,
+        None => unreachable!(),
+    };
     see(memo, walked.numbers.command, view, query);
     Ok(Some(h))
 }

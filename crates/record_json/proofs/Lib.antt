@@ -1,5 +1,6 @@
 mod Hosts
 mod HostsRead
+mod Order
 mod Pages
 mod StatusesRead
 mod Values

@@ -6,3 +6,4 @@ pub mod Fail
 pub mod Parts
 pub mod Statuses
 pub mod StatusReading
+pub mod StatusOrder

@@ -1,10 +1,11 @@
 //! Statuses from JSON.
 
-ghost use Rattle.std.specs.Prelude.{◌≡◌, [], ◌∷◌, ◌++◌, IfOk, MatchResult, option_map};
+ghost use Rattle.std.specs.Prelude.{◌≡◌, [], ◌∷◌, ◌++◌, IfOk, IfSome, MatchResult, option_map};
 ghost use Rattle.serde_json.specs.View.{view, members_view};
 ghost use Rattle.record_model.specs.Seen.{chains_seen};
 ghost use Rattle.record_json.specs.Json.{number_of};
 ghost use Rattle.record_json.specs.Statuses.{counted, host_added, hosts_in, chains_under, chains_of_all, status_in};
+ghost use Rattle.record_json.specs.StatusOrder.{tags_of, Rises, IsInOrder};
 ghost use Rattle.record_json.specs.StatusReading.{hosts_seen, if_taken, SpellsStatus, RefusesStatus};
 
 use crate::fail::JsonFail;
@@ -81,8 +82,9 @@ fn add_chains(
     host: u128,
     tags: &Members,
 ) -> Result<bool, NoMemory>
-    ensures { IfOk result (λ taken. if_taken taken (chains_seen chains.new.items)
+    ensures value { IfOk result (λ taken. if_taken taken (chains_seen chains.new.items)
         ≡ option_map (λ more. chains_seen chains.old.items ++ more) (chains_under host (members_view tags.now.entries))) }
+    ensures rises { IfOk result (λ _. Rises (tags_of (members_view tags.now.entries))) }
 {
     'tags: for (tag, value) in tags {
         if !add_chain(alloc, chains, host, tag.as_str(), value)? {
@@ -94,8 +96,9 @@ fn add_chains(
 
 /// The chains of these hosts.
 fn chains_of(alloc: Global, hosts: &Hosts<'_>) -> Result<Option<Vec<Chain>>, NoMemory>
-    ensures { IfOk result (λ found. option_map (λ chains. chains_seen chains.items) found
+    ensures value { IfOk result (λ found. option_map (λ chains. chains_seen chains.items) found
         ≡ chains_of_all (hosts_seen hosts.now.entries)) }
+    ensures in_order { IfOk result (λ found. IfSome found (λ chains. IsInOrder (chains_seen chains.items))) }
 {
     let mut chains = Vec::new(alloc);
     'hosts: for (host, tags) in hosts {
@@ -108,7 +111,8 @@ fn chains_of(alloc: Global, hosts: &Hosts<'_>) -> Result<Option<Vec<Chain>>, NoM
 
 /// The status that a value stands for.
 fn status_of(alloc: Global, value: &Value) -> Result<Option<Vec<Chain>>, NoMemory>
-    ensures { IfOk result (λ found. option_map (λ chains. chains_seen chains.items) found ≡ status_in (view value.now)) }
+    ensures value { IfOk result (λ found. option_map (λ chains. chains_seen chains.items) found ≡ status_in (view value.now)) }
+    ensures in_order { IfOk result (λ found. IfSome found (λ chains. IsInOrder (chains_seen chains.items))) }
 {
     let Some(members) = value.get("hosts").and_then(Value::as_object) else {
         return Ok(None);
@@ -120,7 +124,8 @@ fn status_of(alloc: Global, value: &Value) -> Result<Option<Vec<Chain>>, NoMemor
 }
 
 /// The status that a JSON text tells: `{"hosts":{"HOST":{"TAG":last}}}`, where a chain has one record more than `last`, and
-/// 2^64-1 for the greatest. Other members are ignored; a host may have any form of a UUID.
+/// 2^64-1 for the greatest. Other members are ignored; a host may have any form of a UUID. The chains are in order of host,
+/// then tag, and none is empty.
 ///
 /// # Errors
 ///
@@ -128,8 +133,9 @@ fn status_of(alloc: Global, value: &Value) -> Result<Option<Vec<Chain>>, NoMemor
 /// exactly where the value isn't of that form, or two members name one host. [`JsonFail::NoMemory`], also for a tag of 2^32
 /// bytes or more.
 pub fn read_status(alloc: Global, bytes: &[u8]) -> Result<Vec<Chain>, JsonFail>
-    ensures { MatchResult result (λ chains. SpellsStatus bytes.now (chains_seen chains.items))
+    ensures value { MatchResult result (λ chains. SpellsStatus bytes.now (chains_seen chains.items))
         (λ fail. RefusesStatus bytes.now fail) }
+    ensures in_order { IfOk result (λ chains. IsInOrder (chains_seen chains.items)) }
 {
     let Some(value) = read_json(alloc, bytes)? else {
         return Err(JsonFail::NotJson);

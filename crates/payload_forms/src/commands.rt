@@ -44,6 +44,7 @@ pub(crate) struct CommandNumbers {
 
 /// Reads what the bin of a command holds, to its last byte.
 #[tactic(auto, unfolding(crate::specs::Reading::history_at))]
+#[inline(always)]
 pub(crate) fn read_history(
     alloc: Global,
     version: Version,
@@ -75,6 +76,7 @@ fn read_numbers(reader: &mut Reader<'_>) -> Result<CommandNumbers, PayloadFail>
 }
 
 #[tactic(auto, unfolding(crate::specs::Reading::texts_at))]
+#[inline(always)]
 fn read_texts(
     alloc: Global,
     version: Version,

@@ -1,4 +1,6 @@
 //! Payloads as they are read, from the left over the slice.
+//!
+//! What hands a whole command on is inlined, so that it is made where it is to stand, and isn't moved four times.
 
 ghost use Rattle.std.specs.Prelude.{◌≡◌, ◌≤◌, ℕ, List, length, Some, None, Err, IfOk};
 ghost use Rattle.payload_rules.specs.Payloads as rules;
@@ -37,6 +39,7 @@ pub fn read_payload(
 }
 
 #[tactic(auto, unfolding(crate::specs::Reading::form_at))]
+#[inline(always)]
 fn read_form(
     alloc: Global,
     version: Version,
@@ -57,6 +60,7 @@ fn read_form(
 }
 
 #[tactic(auto, unfolding(crate::specs::Reading::command_at))]
+#[inline(always)]
 fn read_command(alloc: Global, version: Version, bytes: &[u8]) -> Result<Payload, PayloadFail>
     ensures { GivesWhole payload_seen result (command_at (version_seen version) bytes.now) }
 {

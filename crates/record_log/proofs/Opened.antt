@@ -4,7 +4,7 @@ use Rattle.std.specs.Prelude.{IfSome}
 use Rattle.record_rules.specs.Records.{Event}
 use Rattle.record_rules.specs.Journal.{Sound}
 use Rattle.log_rules.specs.Opened.{opened_journal}
-use Rattle.log_rules.specs.Log.{Form, current_form, IsLogPrefix, StandsFor, NotALog, IsOldLog, DamagedAt}
+use Rattle.log_rules.specs.Log.{Form, current_form, old_form, IsLogPrefix, StandsFor, NotALog, IsOldLog, DamagedAt}
 use Rattle.log_rules.proofs.Callers.{opened_events}
 use Rattle.disk_rules.specs.Disk.{Disk, IsDisk, Leaves}
 use Rattle.disk_rules.specs.Calls.{Sync, Done, FailedOrUnderWay}
@@ -15,9 +15,11 @@ use Rattle.crash_rules.proofs.Crash.{rest_holds_log}
 use Rattle.at_edge.specs.Storing.{DiskSeen, Tells, Rests, Succeeds, Fails, Arrives}
 use Rattle.at_edge.proofs.DiskRuns.{arrives_nowhere, arrives_weaker, succeeds_on, fails_on}
 use Rattle.log_check.specs.Walks.{IsLogTo, Walked}
+use Rattle.log_check.proofs.Telling.{tells_so}
 use Rattle.record_log.specs.Gates.{IsAtRest}
 use Rattle.record_log.specs.Journals.{LogSeen, HoldsAt}
 use Rattle.record_log.specs.Opening.{Synced, LeavesNoMore, Finds, Opened, OpenCause}
+use Rattle.record_log.specs.OldLogs.{OldOpened}
 use Rattle.record_log.specs.declared.opening.OpenFail.{OpenFail}
 use Rattle.record_log.specs.declared.opening.OpenFail.TheVariants as fails
 
@@ -59,11 +61,11 @@ failed_sync_leaves (Some old) new failed =
 -- ---- the log
 
 -- the bytes stand for the journal of these events
-stands_here : (host gate : ℕ) (events : List Event) (shows : List ℕ) → IsLogTo current_form host gate events shows → Sound (opened_journal events) host → StandsFor current_form shows host (opened_journal events)
-stands_here host gate events shows is sound = record {
+stands_here : (form : Form) (host gate : ℕ) (events : List Event) (shows : List ℕ) → IsLogTo form host gate events shows → Sound (opened_journal events) host → StandsFor form shows host (opened_journal events)
+stands_here form host gate events shows is sound = record {
   prefix = take gate shows;
   behind = drop (gate + 1) shows;
-  opened = subst (λ (said : List Event). IsLogPrefix current_form (take gate shows) host said) (sym (opened_events events)) is.opened;
+  opened = subst (λ (said : List Event). IsLogPrefix form (take gate shows) host said) (sym (opened_events events)) is.opened;
   bytes_are = is.bytes_are;
   sound = sound;
 }
@@ -71,7 +73,7 @@ stands_here host gate events shows is sound = record {
 -- where the disk was synced, it holds that log
 holds_here : (host gate : ℕ) (events : List Event) (disk : Disk) → IsDisk disk → disk.written ≡ [] → IsLogTo current_form host gate events disk.shows → Sound (opened_journal events) host → HoldsAt current_form gate host (opened_journal events) disk
 unfolding stands_here
-holds_here host gate events disk is none log sound = record { prefix = take gate disk.shows; place = log.place; log = rest_holds_log current_form host (opened_journal events) disk is none (stands_here host gate events disk.shows log sound) }
+holds_here host gate events disk is none log sound = record { prefix = take gate disk.shows; place = log.place; log = rest_holds_log current_form host (opened_journal events) disk is none (stands_here current_form host gate events disk.shows log sound) }
 
 rests_here : (host gate : ℕ) (events : List Event) (disk : Disk) → IsDisk disk → disk.written ≡ [] → IsLogTo current_form host gate events disk.shows → gate + 1 < 2 ^ 64 → IsAtRest gate disk
 rests_here host gate events disk is none log fits = record { prefix = take gate disk.shows; gate_is = sym log.place; settled = rest_is_settled (take gate disk.shows) (drop (gate + 1) disk.shows) disk is none log.bytes_are; fits = fits }
@@ -119,4 +121,14 @@ module _ (old mid new : DiskSeen) (host gate : ℕ) (synced : Succeeds Sync old.
     where
       shown_here : (seen : Option History) → IfSome seen (λ h. IsLogTo current_form host gate walked.events h.now.shows) → IfSome seen (λ h. StandsFor current_form h.now.shows host (opened_journal walked.events))
       shown_here None log = tt
-      shown_here (Some h) log = stands_here host gate walked.events h.now.shows log walked.sound
+      shown_here (Some h) log = stands_here current_form host gate walked.events h.now.shows log walked.sound
+
+-- ---- the same in the old form
+
+pub old_opened : (old new : DiskSeen) (host gate : ℕ) → Rests old new → Walked old_form old host gate → OldOpened old (record { disk = new; host = host; gate = gate })
+old_opened old new host gate rests walked = record {
+  events = walked.events;
+  sound = walked.sound;
+  shown = tells_so old (λ d. IsLogTo old_form host gate walked.events d.shows) (λ d. StandsFor old_form d.shows host (opened_journal walked.events)) (λ d log. stands_here old_form host gate walked.events d.shows log walked.sound) walked.shown;
+  rests = rests;
+}

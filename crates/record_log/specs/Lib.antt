@@ -5,3 +5,4 @@ pub mod Creating
 pub mod Reading
 pub mod Opening
 pub mod Walking
+pub mod OldLogs

@@ -16,7 +16,7 @@
 //! first gate to the closed one, meets the events of the journal, each once and in order.
 //!
 //! A log that stands on a disk is opened by a sync and a walk over its batches, each of which is checked; a disk that shows no
-//! sound log is refused, with the cause.
+//! sound log is refused, with the cause. A log in the old form, without digests, is opened as an [`OldLog`], which is only read.
 //!
 //! Stands on `at_edge` for disks, `log_format` for bytes, `log_check` for the walk, and the words of `log_rules` and
 //! `crash_rules`.
@@ -26,6 +26,7 @@ mod create;
 mod halves;
 mod headers;
 mod laws;
+mod old_log;
 mod opening;
 mod reading;
 mod ready;
@@ -34,6 +35,7 @@ mod spots;
 
 pub use create::CreateFail;
 pub use laws::{walk_begins, walk_ends, walk_goes_on, walk_is_at_a_gate};
+pub use old_log::{OldFail, OldLog};
 pub use opening::OpenFail;
 pub use reading::ReadFail;
 pub use ready::Ready;

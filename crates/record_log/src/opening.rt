@@ -11,7 +11,7 @@ use log_check::{LogForm, WalkFail, find_closed_gate};
 use std::alloc::Global;
 
 /// The most bytes of a body that are read at once.
-const PIECE_BYTES: usize = 65_536;
+pub(crate) const PIECE_BYTES: usize = 65_536;
 
 /// Why no log was opened.
 #[derive(Clone, Copy, Debug, PartialEq, Eq)]

@@ -399,3 +399,30 @@ fn a_file_is_opened_again(rt: HostRuntime) -> Result<(), Fail> {
     fs::remove_file(&rt, PATH)?;
     Ok(())
 }
+
+/// Why no old log is opened on a disk of the bytes of a new one with this digit of the form and this gate.
+fn open_old_fail(alloc: Global, digit: u8, gate: u8) -> Result<Option<OldFail>, Fail> {
+    let mut bytes = NEW_LOG;
+    bytes[7] = digit;
+    bytes[32] = gate;
+    let disk = MemDisk::new(alloc, bytes.to_vec(alloc)?, Vec::new(alloc))?;
+    match OldLog::open_on(alloc, disk) {
+        Ok(log) => {
+            if log.host() == FIRST_ID {
+                return Ok(None);
+            }
+            Ok(Some(OldFail::NoMemory))
+        }
+        Err((fail, _)) => Ok(Some(fail)),
+    }
+}
+
+#[test]
+fn an_old_log_is_opened_by_its_header(rt: HostRuntime) -> Result<(), Fail> {
+    let alloc = rt.alloc();
+    assert!(rt; open_old_fail(alloc, 0x31, 0)? == None);
+    assert!(rt; open_old_fail(alloc, 0x32, 0)? == Some(OldFail::NotOld));
+    assert!(rt; open_old_fail(alloc, 0x30, 0)? == Some(OldFail::NotOld));
+    assert!(rt; open_old_fail(alloc, 0x31, 1)? == Some(OldFail::Damaged { offset: 32 }));
+    Ok(())
+}

@@ -1,0 +1,5 @@
+pub mod Bodies
+pub mod Gathering
+pub mod Phrases
+pub mod Written
+pub mod Seen

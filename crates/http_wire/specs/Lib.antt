@@ -3,3 +3,4 @@ pub mod Gathering
 pub mod Phrases
 pub mod Written
 pub mod Seen
+pub mod Pieces

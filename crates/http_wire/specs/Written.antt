@@ -52,6 +52,11 @@ abbrev pub authorization_lines : Option (List ℕ) → List (List ℕ)
 authorization_lines None = []
 authorization_lines (Some value) = (codes "Authorization: " ++ value) ∷ []
 
+-- the same with the end of the line before it
+abbrev pub authorization_piece : Option (List ℕ) → List ℕ
+authorization_piece None = []
+authorization_piece (Some value) = 13 ∷ 10 ∷ codes "Authorization: " ++ value
+
 abbrev pub request_text : RequestSeen → (host : List ℕ) → List ℕ
 request_text r host =
     message (request_line r.method r.target ∷ (codes "Host: " ++ host) ∷ authorization_lines r.authorization ++ (close_lines r.close ++ length_line (length r.body) ∷ [])) r.body

@@ -12,7 +12,7 @@ use arrayvec::ArrayVec;
 use at_edge::{Sink, WriteFault};
 
 /// The line that ends a connection, with the end of the line before it.
-fn close_line(close: bool) -> &'static str
+pub fn close_line(close: bool) -> &'static str
     ensures value { result.now ≡ if close then 13 ∷ 10 ∷ codes "Connection: close" else [] }
     ensures short { length result.now ≤ 19 }
 {

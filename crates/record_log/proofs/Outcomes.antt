@@ -23,7 +23,7 @@ use Rattle.at_edge.specs.Storing.{DiskSeen, Arrives, IsMeasurable}
 use Rattle.at_edge.proofs.DiskRuns.{arrived, arrives_then, arrives_weaker}
 use Rattle.record_log.specs.Gates.{IsAtRest, IsDoubtful, IsUncertain, payload_in}
 use Rattle.record_log.specs.Ready.{ReadyBatch, batch_payload, closed_batch}
-use Rattle.record_log.specs.Journals.{HoldsAt, DoubtsAt, LogSeen, KeepsFront, Settles, Appends}
+use Rattle.record_log.specs.Journals.{HoldsAt, DoubtsAt, LogSeen, KeepsBelow, Settles, Appends}
 use Rattle.record_log.specs.Reading.{BatchBefore}
 use Rattle.record_log.specs.declared.spots.Spot.{Spot}
 
@@ -207,18 +207,18 @@ stage_then_settle host gate count doubt disk mid new (Err fault) batch bytes byt
 begun_by : (prefix behind : List ℕ) (gate : ℕ) (shows : List ℕ) → length prefix ≡ gate → shows ≡ prefix ++ behind → take gate shows ≡ prefix
 begun_by prefix behind gate shows place is = ap (take gate) is ∙ take_at prefix behind gate place
 
-settled_front : (prefix : List ℕ) (gate : ℕ) (disk : Disk) → length prefix ≡ gate → IsSettled prefix disk → take gate disk.shows ≡ prefix
-settled_front prefix gate disk place settled =
+settled_below : (prefix : List ℕ) (gate : ℕ) (disk : Disk) → length prefix ≡ gate → IsSettled prefix disk → take gate disk.shows ≡ prefix
+settled_below prefix gate disk place settled =
     let shown = settled_shows prefix disk settled in
     begun_by prefix (0 ∷ shown.0) gate disk.shows place (shown.1 ∙ append_assoc prefix (0 ∷ []) shown.0)
 
-longer_front : (prefix more : List ℕ) (gate : ℕ) (disk : Disk) → length prefix ≡ gate → IsSettled (prefix ++ more) disk → take gate disk.shows ≡ prefix
-longer_front prefix more gate disk place settled =
+longer_below : (prefix more : List ℕ) (gate : ℕ) (disk : Disk) → length prefix ≡ gate → IsSettled (prefix ++ more) disk → take gate disk.shows ≡ prefix
+longer_below prefix more gate disk place settled =
     let shown = settled_shows (prefix ++ more) disk settled in
     begun_by prefix (more ++ (0 ∷ shown.0)) gate disk.shows place (shown.1 ∙ append_assoc (prefix ++ more) (0 ∷ []) shown.0 ∙ append_assoc prefix more (0 ∷ shown.0))
 
-doubt_front : (prefix payload : List ℕ) (gate : ℕ) (disk : Disk) → length prefix ≡ gate → IsInDoubt prefix payload disk → take gate disk.shows ≡ prefix
-doubt_front prefix payload gate disk place doubt = elim (doubt_leaves prefix payload disk disk.shows doubt (shows_is_left disk doubt.is_disk)) [
+doubt_below : (prefix payload : List ℕ) (gate : ℕ) (disk : Disk) → length prefix ≡ gate → IsInDoubt prefix payload disk → take gate disk.shows ≡ prefix
+doubt_below prefix payload gate disk place doubt = elim (doubt_leaves prefix payload disk disk.shows doubt (shows_is_left disk doubt.is_disk)) [
   | inl before ↦ begun_by prefix (0 ∷ before.0) gate disk.shows place (before.1 ∙ append_assoc prefix (0 ∷ []) before.0)
   | inr after ↦ begun_by prefix ((after.0 ∷ (payload ++ 0 ∷ [])) ++ after.2.0) gate disk.shows place (after.2.1 ∙ append_assoc prefix (after.0 ∷ (payload ++ 0 ∷ [])) after.2.0)
 ]
@@ -226,44 +226,44 @@ doubt_front prefix payload gate disk place doubt = elim (doubt_leaves prefix pay
 some_is : (one two : History) → ◌≡◌ {A = Option History} (Some one) (Some two) → one ≡ two
 some_is one two e = cc
 
-pub rest_front : (at_end : List ℕ → Disk → Type 0) (through : List ℕ → Disk → Type 0) (gate : ℕ) (old new : Option History) → IfSome old (λ h. IsAtRest gate h.now)
+pub rest_below : (at_end : List ℕ → Disk → Type 0) (through : List ℕ → Disk → Type 0) (gate : ℕ) (old new : Option History) → IfSome old (λ h. IsAtRest gate h.now)
     → ((prefix : List ℕ) → (length prefix ≡ gate) × IfSome old (λ h. IsSettled prefix h.now) → Arrives (through prefix) (at_end prefix) old new)
-    → ((prefix : List ℕ) (disk : Disk) → length prefix ≡ gate → at_end prefix disk → take gate disk.shows ≡ prefix) → KeepsFront gate old new
-rest_front at_end through gate None new rests stages begins was now told is = absurd cc
-rest_front at_end through gate (Some old) new rests stages begins was now told is =
+    → ((prefix : List ℕ) (disk : Disk) → length prefix ≡ gate → at_end prefix disk → take gate disk.shows ≡ prefix) → KeepsBelow gate old new
+rest_below at_end through gate None new rests stages begins was now told is = absurd cc
+rest_below at_end through gate (Some old) new rests stages begins was now told is =
     let run = stages rests.prefix (sym rests.gate_is, rests.settled) in
     let last = some_is run.0 now (sym run.1 ∙ is) in
     let first = some_is old was told in
     ap (λ (h : History). take gate h.now.shows) (sym last) ∙ begins rests.prefix run.0.now (sym rests.gate_is) run.3
-    ∙ sym (settled_front rests.prefix gate old.now (sym rests.gate_is) rests.settled) ∙ ap (λ (h : History). take gate h.now.shows) first
+    ∙ sym (settled_below rests.prefix gate old.now (sym rests.gate_is) rests.settled) ∙ ap (λ (h : History). take gate h.now.shows) first
 
-pub doubtful_front : (at_end : List ℕ → List ℕ → Disk → Type 0) (through : List ℕ → List ℕ → Disk → Type 0) (gate count : ℕ) (old new : Option History) → IfSome old (λ h. IsDoubtful gate count h.now)
+pub doubtful_below : (at_end : List ℕ → List ℕ → Disk → Type 0) (through : List ℕ → List ℕ → Disk → Type 0) (gate count : ℕ) (old new : Option History) → IfSome old (λ h. IsDoubtful gate count h.now)
     → ((prefix payload : List ℕ) → (length prefix ≡ gate) × IfSome old (λ h. IsInDoubt prefix payload h.now) → Arrives (through prefix payload) (at_end prefix payload) old new)
-    → ((prefix payload : List ℕ) (disk : Disk) → length prefix ≡ gate → at_end prefix payload disk → take gate disk.shows ≡ prefix) → KeepsFront gate old new
-doubtful_front at_end through gate count None new doubtful opens begins was now told is = absurd cc
-doubtful_front at_end through gate count (Some old) new doubtful opens begins was now told is =
+    → ((prefix payload : List ℕ) (disk : Disk) → length prefix ≡ gate → at_end prefix payload disk → take gate disk.shows ≡ prefix) → KeepsBelow gate old new
+doubtful_below at_end through gate count None new doubtful opens begins was now told is = absurd cc
+doubtful_below at_end through gate count (Some old) new doubtful opens begins was now told is =
     let run = opens doubtful.prefix doubtful.payload (sym doubtful.gate_is, doubtful.doubt) in
     let last = some_is run.0 now (sym run.1 ∙ is) in
     let first = some_is old was told in
     ap (λ (h : History). take gate h.now.shows) (sym last) ∙ begins doubtful.prefix doubtful.payload run.0.now (sym doubtful.gate_is) run.3
-    ∙ sym (doubt_front doubtful.prefix doubtful.payload gate old.now (sym doubtful.gate_is) doubtful.doubt) ∙ ap (λ (h : History). take gate h.now.shows) first
+    ∙ sym (doubt_below doubtful.prefix doubtful.payload gate old.now (sym doubtful.gate_is) doubtful.doubt) ∙ ap (λ (h : History). take gate h.now.shows) first
 
-pub stage_failed_front : (gate : ℕ) (old new : Option History) → IfSome old (λ h. IsAtRest gate h.now) → ((prefix : List ℕ) → (length prefix ≡ gate) × IfSome old (λ h. IsSettled prefix h.now) → Arrives (IsSettled prefix) (IsSettled prefix) old new) → KeepsFront gate old new
-stage_failed_front gate old new rests stages = rest_front IsSettled IsSettled gate old new rests stages (λ prefix disk place settled. settled_front prefix gate disk place settled)
+pub stage_failed_below : (gate : ℕ) (old new : Option History) → IfSome old (λ h. IsAtRest gate h.now) → ((prefix : List ℕ) → (length prefix ≡ gate) × IfSome old (λ h. IsSettled prefix h.now) → Arrives (IsSettled prefix) (IsSettled prefix) old new) → KeepsBelow gate old new
+stage_failed_below gate old new rests stages = rest_below IsSettled IsSettled gate old new rests stages (λ prefix disk place settled. settled_below prefix gate disk place settled)
 
-pub open_failed_front : (gate count : ℕ) (old new : Option History) → IfSome old (λ h. IsDoubtful gate count h.now) → ((prefix payload : List ℕ) → (length prefix ≡ gate) × IfSome old (λ h. IsInDoubt prefix payload h.now) → Arrives (IsUncertain prefix payload) (IsInDoubt prefix payload) old new) → KeepsFront gate old new
-open_failed_front gate count old new doubtful opens = doubtful_front IsInDoubt IsUncertain gate count old new doubtful opens (λ prefix payload disk place doubt. doubt_front prefix payload gate disk place doubt)
+pub open_failed_below : (gate count : ℕ) (old new : Option History) → IfSome old (λ h. IsDoubtful gate count h.now) → ((prefix payload : List ℕ) → (length prefix ≡ gate) × IfSome old (λ h. IsInDoubt prefix payload h.now) → Arrives (IsUncertain prefix payload) (IsInDoubt prefix payload) old new) → KeepsBelow gate old new
+open_failed_below gate count old new doubtful opens = doubtful_below IsInDoubt IsUncertain gate count old new doubtful opens (λ prefix payload disk place doubt. doubt_below prefix payload gate disk place doubt)
 
-pub opened_front : (gate count : ℕ) (old new : Option History) → IfSome old (λ h. IsDoubtful gate count h.now) → ((prefix payload : List ℕ) → (length prefix ≡ gate) × IfSome old (λ h. IsInDoubt prefix payload h.now) → Arrives (IsUncertain prefix payload) (IsSettled (prefix ++ 1 ∷ payload)) old new) → KeepsFront gate old new
-opened_front gate count old new doubtful opens = doubtful_front (λ prefix payload. IsSettled (prefix ++ 1 ∷ payload)) IsUncertain gate count old new doubtful opens (λ prefix payload disk place settled. longer_front prefix (1 ∷ payload) gate disk place settled)
+pub opened_below : (gate count : ℕ) (old new : Option History) → IfSome old (λ h. IsDoubtful gate count h.now) → ((prefix payload : List ℕ) → (length prefix ≡ gate) × IfSome old (λ h. IsInDoubt prefix payload h.now) → Arrives (IsUncertain prefix payload) (IsSettled (prefix ++ 1 ∷ payload)) old new) → KeepsBelow gate old new
+opened_below gate count old new doubtful opens = doubtful_below (λ prefix payload. IsSettled (prefix ++ 1 ∷ payload)) IsUncertain gate count old new doubtful opens (λ prefix payload disk place settled. longer_below prefix (1 ∷ payload) gate disk place settled)
 
 -- the second half goes on from the first
-pub staged_front : (gate : ℕ) (payload : List ℕ) (old mid new : Option History) → IfSome old (λ h. IsAtRest gate h.now) → ((prefix : List ℕ) → (length prefix ≡ gate) × IfSome old (λ h. IsSettled prefix h.now) → Arrives (IsUncertain prefix payload) (λ d. IsInDoubt prefix payload d × IsMeasurable d) old mid)
-    → KeepsFront gate mid new → KeepsFront gate old new
-staged_front gate payload None mid new rests stages later was now told is = absurd cc
-staged_front gate payload (Some old) mid new rests stages later was now told is =
+pub staged_below : (gate : ℕ) (payload : List ℕ) (old mid new : Option History) → IfSome old (λ h. IsAtRest gate h.now) → ((prefix : List ℕ) → (length prefix ≡ gate) × IfSome old (λ h. IsSettled prefix h.now) → Arrives (IsUncertain prefix payload) (λ d. IsInDoubt prefix payload d × IsMeasurable d) old mid)
+    → KeepsBelow gate mid new → KeepsBelow gate old new
+staged_below gate payload None mid new rests stages later was now told is = absurd cc
+staged_below gate payload (Some old) mid new rests stages later was now told is =
     let run = stages rests.prefix (sym rests.gate_is, rests.settled) in
-    later run.0 now run.1 is ∙ rest_front (λ prefix d. IsInDoubt prefix payload d × IsMeasurable d) (λ prefix. IsUncertain prefix payload) gate (Some old) mid rests stages (λ prefix disk place end. doubt_front prefix payload gate disk place end.0) was run.0 told run.1
+    later run.0 now run.1 is ∙ rest_below (λ prefix d. IsInDoubt prefix payload d × IsMeasurable d) (λ prefix. IsUncertain prefix payload) gate (Some old) mid rests stages (λ prefix disk place end. doubt_below prefix payload gate disk place end.0) was run.0 told run.1
 
 -- the batch that was settled stands at its spot
 pub settle_spot : (gate count next host : ℕ) (journal more : List Entry) (old new : Option History) → IfSome old (λ h. IsDoubtful gate (20 + count) h.now) → 20 + count ≡ length (payload_bytes current_form gate (events_of more)) → next ≡ next_gate gate count
@@ -291,5 +291,5 @@ settle_spot gate count next host journal more (Some old) new doubtful count_is n
       gate_open = λ e. absurd (omega (arith, e));
       offset_is = sym doubts.place;
       count_is = omega (arith, count_is, body);
-      bytes_are = settled_front (prefix ++ 1 ∷ payload) next run.0.now place run.3 ∙ ap (λ (l : List ℕ). prefix ++ 1 ∷ l) same ∙ sym (append-nil (prefix ++ 1 ∷ payload_bytes current_form gate events));
+      bytes_are = settled_below (prefix ++ 1 ∷ payload) next run.0.now place run.3 ∙ ap (λ (l : List ℕ). prefix ++ 1 ∷ l) same ∙ sym (append-nil (prefix ++ 1 ∷ payload_bytes current_form gate events));
     })

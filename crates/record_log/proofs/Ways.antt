@@ -45,18 +45,18 @@ begins_here form gate host journal disk holds =
 
 -- before an open batch that comes next
 module _ (form : Form) (shows : List ℕ) (gate offset : ℕ) (passed : List Batch) (batch : Batch) (rest : List Batch) (host : ℕ) (bytes_are : take gate shows ≡ header_bytes form host ++ batches_bytes form 32 (passed ++ batch ∷ rest)) (offset_is : offset ≡ 32 + length (batches_bytes form 32 passed)) where
-  abbrev front : List ℕ
-  front = header_bytes form host ++ batches_bytes form 32 passed
+  abbrev earlier : List ℕ
+  earlier = header_bytes form host ++ batches_bytes form 32 passed
 
   abbrev tail : List ℕ
   tail = batches_bytes form (offset + length (batch_bytes form offset batch)) rest
 
-  front_ends : length front ≡ offset
-  front_ends = length-append (header_bytes form host) (batches_bytes form 32 passed) ∙ sym offset_is
+  earlier_ends : length earlier ≡ offset
+  earlier_ends = length-append (header_bytes form host) (batches_bytes form 32 passed) ∙ sym offset_is
 
-  split : take gate shows ≡ front ++ batch_bytes form offset batch ++ tail
+  split : take gate shows ≡ earlier ++ batch_bytes form offset batch ++ tail
   split = bytes_are ∙ ap (λ (l : List ℕ). header_bytes form host ++ l) (batches_append form 32 passed (batch ∷ rest) ∙ ap (λ (n : ℕ). batches_bytes form 32 passed ++ batches_bytes form n (batch ∷ rest)) (sym offset_is))
-      ∙ sym (append_assoc (header_bytes form host) (batches_bytes form 32 passed) (batch_bytes form offset batch ++ tail)) ∙ sym (append_assoc front (batch_bytes form offset batch) tail)
+      ∙ sym (append_assoc (header_bytes form host) (batches_bytes form 32 passed) (batch_bytes form offset batch ++ tail)) ∙ sym (append_assoc earlier (batch_bytes form offset batch) tail)
 
 -- a gate stands there, the closed one or a batch's
 at_gate_by : (form : Form) (shows : List ℕ) (gate offset : ℕ) (before after : List Event) (stands : StandsBetween form shows gate offset before after) → (coming : List Batch) → coming ≡ stands.coming → (offset ≡ gate) ⊎ ((batch : Batch) × (rest : List Batch) × (stands.coming ≡ batch ∷ rest))

@@ -54,8 +54,8 @@ abbrev pub HasSpot : LogSeen → Spot → List Entry → Type 0
 HasSpot log spot more = Tells log.disk (λ disk. BatchBefore log.gate disk.shows spot (events_of more))
 
 -- the bytes before the gate are shown as before
-abbrev pub KeepsFront : (gate : ℕ) → Option History → Option History → Type 0
-KeepsFront gate old new = (was now : History) → old ≡ Some was → new ≡ Some now → take gate now.now.shows ≡ take gate was.now.shows
+abbrev pub KeepsBelow : (gate : ℕ) → Option History → Option History → Type 0
+KeepsBelow gate old new = (was now : History) → old ≡ Some was → new ≡ Some now → take gate now.now.shows ≡ take gate was.now.shows
 
 -- ---- the calls
 

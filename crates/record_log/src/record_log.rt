@@ -7,7 +7,7 @@ ghost use Rattle.record_rules.specs.Journal.{EventFits};
 ghost use Rattle.log_rules.specs.Body.{body_bytes, IsBatch};
 ghost use Rattle.record_model.specs.Seen.{events_seen};
 ghost use Rattle.at_edge.specs.Storing.{Rests};
-ghost use Rattle.record_log.specs.Journals.{HasJournal, KeepsFront, Settles, Appends};
+ghost use Rattle.record_log.specs.Journals.{HasJournal, KeepsBelow, Settles, Appends};
 ghost use Rattle.record_log.specs.Creating.{HasCause, WasEmpty};
 ghost use Rattle.record_log.specs.Opening.{LeavesNoMore, Opened, OpenCause};
 
@@ -183,7 +183,7 @@ impl<D: Disk> RecordLog<D> {
         ensures done { OnOk result (self.new.doubt ≡ None) }
         ensures counted { IsErr result → Rose self.old.disk.faults self.new.disk.faults }
         ensures kept { self.old.disk.faults ≤ self.new.disk.faults }
-        ensures front { KeepsFront self.old.gate self.old.disk.history self.new.disk.history }
+        ensures below { KeepsBelow self.old.gate self.old.disk.history self.new.disk.history }
         ensures silent { self.old.disk.history ≡ None → self.new.disk.history ≡ None }
         ensures host { self.new.host ≡ self.old.host }
     {
@@ -208,7 +208,7 @@ impl<D: Disk> RecordLog<D> {
         ensures doubt { OnErr result (self.new.doubt ≡ self.old.doubt) }
         ensures counted { IsErr result → Rose self.old.disk.faults self.new.disk.faults }
         ensures kept { self.old.disk.faults ≤ self.new.disk.faults }
-        ensures front { KeepsFront self.old.gate self.old.disk.history self.new.disk.history }
+        ensures below { KeepsBelow self.old.gate self.old.disk.history self.new.disk.history }
         ensures silent { self.old.disk.history ≡ None → self.new.disk.history ≡ None }
         ensures host { self.new.host ≡ self.old.host }
     {

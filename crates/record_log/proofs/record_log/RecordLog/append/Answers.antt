@@ -2,7 +2,7 @@ use Rattle.std.proofs.Common.{◌≡◌, ℕ, ◌+◌, length, sym, ◌∙◌, a
 use Rattle.log_rules.specs.Log.{current_form}
 use Rattle.record_log.specs.Gates.{payload_in}
 use Rattle.record_log.specs.Journals.{IsGated}
-use Rattle.record_log.proofs.Outcomes.{stage_fails, rest_stays, doubt_begins, batch_closes, batch_counted, no_end, stage_then_settle, stage_failed_front, staged_front}
+use Rattle.record_log.proofs.Outcomes.{stage_fails, rest_stays, doubt_begins, batch_closes, batch_counted, no_end, stage_then_settle, stage_failed_below, staged_below}
 use Rattle.at_edge.proofs.DiskRuns.{arrived}
 use Rattle.record_log.proofs.record_log.RecordLog.append.Goals as goal
 
@@ -33,14 +33,14 @@ returns-clause-appends g c =
     rw (← c.self.view_is) (
     stage_then_settle c.self.inside.host c.self.inside.gate c.count.result c.self.inside.doubt (g.D.Disk.disk c.self.inside.disk) (g.D.Disk.disk c.stage.new.disk) c.settle.new.self c.settle.result c.args.batch c.bytes.result.now c.bytes.ensures placed c.count.ensures c.in-Ok.ensures.stages c.settle.ensures.settles)
 
-pub returns-in-Err-clause-front : goal.returns-in-Err-clause-front
-returns-in-Err-clause-front g c =
+pub returns-in-Err-clause-below : goal.returns-in-Err-clause-below
+returns-in-Err-clause-below g c =
     let none : c.self.inside.doubt ≡ None = subst (λ v. v.doubt ≡ None) (sym c.self.view_is) c.requires.settled in
     let rests = subst (λ (d : Option ℕ). IsGated (g.D.Disk.disk c.self.inside.disk) c.self.inside.gate d) none c.self.invariant in
-    rw (← c.self.view_is) (stage_failed_front c.self.inside.gate _ _ rests c.in-Err.ensures.stages)
+    rw (← c.self.view_is) (stage_failed_below c.self.inside.gate _ _ rests c.in-Err.ensures.stages)
 
-pub returns-clause-front : goal.returns-clause-front
-returns-clause-front g c =
+pub returns-clause-below : goal.returns-clause-below
+returns-clause-below g c =
     let none : c.self.inside.doubt ≡ None = subst (λ v. v.doubt ≡ None) (sym c.self.view_is) c.requires.settled in
     let rests = subst (λ (d : Option ℕ). IsGated (g.D.Disk.disk c.self.inside.disk) c.self.inside.gate d) none c.self.invariant in
-    rw (← c.self.view_is) (staged_front c.self.inside.gate (payload_in c.bytes.result.now) _ _ _ rests c.in-Ok.ensures.stages c.settle.ensures.front)
+    rw (← c.self.view_is) (staged_below c.self.inside.gate (payload_in c.bytes.result.now) _ _ _ rests c.in-Ok.ensures.stages c.settle.ensures.below)

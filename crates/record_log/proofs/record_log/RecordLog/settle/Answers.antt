@@ -2,7 +2,7 @@ use Rattle.std.proofs.Common.{◌≡◌, ℕ, ◌+◌, ◌-◌, ◌^◌, refl, s
 use Rattle.std.specs.Prelude.{min}
 use Rattle.log_rules.specs.Log.{current_form}
 use Rattle.record_log.specs.Journals.{IsGated}
-use Rattle.record_log.proofs.Outcomes.{settle_done, settle_fails, settled_rests, doubt_rests, no_end, entries_counted, settle_spot, open_failed_front, opened_front}
+use Rattle.record_log.proofs.Outcomes.{settle_done, settle_fails, settled_rests, doubt_rests, no_end, entries_counted, settle_spot, open_failed_below, opened_below}
 use Rattle.at_edge.proofs.DiskRuns.{arrived}
 use Rattle.record_log.proofs.record_log.RecordLog.settle.Goals as goal
 
@@ -32,12 +32,12 @@ returns-clause-settles g c = rw (← c.self.view_is) (λ journal more has.
     let spot = settle_spot c.self.inside.gate c.in-Some.count c.saturating_add-next.result c.self.inside.host journal more _ _ doubtful (ap (λ (n : ℕ). 20 + n) count_is ∙ entries_counted c.self.inside.gate more) next_is has.holds c.in-Ok.ensures.opens in
     (record { settled = refl; holds = arrived _ _ _ _ run }, spot, no_end _ _ _ _ run))
 
-pub returns-in-Err-clause-front : goal.returns-in-Err-clause-front
-returns-in-Err-clause-front g c = rw (← c.self.view_is) (
+pub returns-in-Err-clause-below : goal.returns-in-Err-clause-below
+returns-in-Err-clause-below g c = rw (← c.self.view_is) (
     let doubtful = subst (λ (d : Option ℕ). IsGated (g.D.Disk.disk c.self.inside.disk) c.self.inside.gate d) c.in-Some.is c.self.invariant in
-    open_failed_front c.self.inside.gate (20 + c.in-Some.count) _ _ doubtful c.in-Err.ensures.opens)
+    open_failed_below c.self.inside.gate (20 + c.in-Some.count) _ _ doubtful c.in-Err.ensures.opens)
 
-pub returns-clause-front : goal.returns-clause-front
-returns-clause-front g c = rw (← c.self.view_is) (
+pub returns-clause-below : goal.returns-clause-below
+returns-clause-below g c = rw (← c.self.view_is) (
     let doubtful = subst (λ (d : Option ℕ). IsGated (g.D.Disk.disk c.self.inside.disk) c.self.inside.gate d) c.in-Some.is c.self.invariant in
-    opened_front c.self.inside.gate (20 + c.in-Some.count) _ _ doubtful c.in-Ok.ensures.opens)
+    opened_below c.self.inside.gate (20 + c.in-Some.count) _ _ doubtful c.in-Ok.ensures.opens)

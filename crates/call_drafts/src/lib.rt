@@ -19,3 +19,6 @@ pub use drafting::draft;
 pub use drafts::Draft;
 pub use kept::Kept;
 pub use lengths::{LongText, too_long};
+
+#[cfg(test)]
+mod tests;

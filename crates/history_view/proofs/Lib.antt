@@ -7,3 +7,4 @@ pub mod Walks
 pub mod Ordering
 pub mod Listing
 pub mod History
+pub mod Folding

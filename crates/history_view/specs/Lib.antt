@@ -1,5 +1,6 @@
 pub mod Counts
 pub mod Texts
+pub mod Folded
 pub mod Rows
 pub mod Places
 pub mod ViewState

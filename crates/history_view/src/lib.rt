@@ -8,6 +8,9 @@
 //! has what is shown, the newest first. Places in both are made with memory by a `reserve_..`, and never taken out,
 //! so that `add` takes none and a room stays ready whatever comes between.
 //!
+//! The texts stand also folded to lower case, those of 64 numbers end to end in a block, so that one look at a block tells a
+//! search what stands in none of them.
+//!
 //! The commands of a host, a session or a working directory are the walk over the order that passes by numbers; how
 //! many there are is counted beside each text. A text that was numbered and a place that was made stay, also where
 //! nothing of them is shown any more.
@@ -17,6 +20,7 @@
 
 mod bucket;
 mod dictionary;
+mod folded;
 mod laws;
 mod places;
 mod room;

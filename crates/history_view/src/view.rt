@@ -16,6 +16,7 @@ ghost use Rattle.definitions.specs.Journal.{HaveDistinctIds};
 ghost use Rattle.history_view.specs.Shown.{command_seen};
 ghost use Rattle.std.specs.Option.{option_map};
 ghost use Rattle.std.specs.Prelude.{length, IsSome, Some, slice_get};
+ghost use Rattle.history_view.specs.Folded.{HoldsBlock};
 ghost use Rattle.std.specs.List.{filter, filter_map};
 ghost use Rattle.view_rules.specs.Answers.{in_scope};
 ghost use Rattle.history_view.specs.Counts.{Counts, SameCounts, count_of, the_command};
@@ -129,6 +130,21 @@ impl HistoryView {
         ensures { slice_get self.now.texts number ≡ Some result.now }
     {
         self.texts.text(number)
+    }
+
+    /// The text of this number, if it has one. It takes no memory.
+    pub fn numbered(&self, number: usize) -> Option<&[u8]>
+        ensures { option_map (λ t. t.now) result ≡ slice_get self.now.texts number }
+    {
+        self.texts.numbered(number)
+    }
+
+    /// The texts of 64 numbers, from 64 times this one on, end to end with their ASCII letters folded; nothing where there
+    /// are none. It takes no memory.
+    pub fn folded(&self, block: usize) -> &[u8]
+        ensures { HoldsBlock self.now.texts block result.now }
+    {
+        self.texts.block(block)
     }
 
     /// The filter with its text by its number. It takes no memory.

@@ -3,3 +3,5 @@ pub mod Memos
 pub mod Needles
 pub mod Answering
 pub mod Folds
+pub mod Bounds
+pub mod Telling

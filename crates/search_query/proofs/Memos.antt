@@ -18,12 +18,16 @@ use Rattle.view_rules.specs.Answers.{in_scope}
 use Rattle.history_view.specs.declared.bucket.ScopeNumber.{ScopeNumber}
 use Rattle.history_view.specs.Buckets.{has_scope, Selects}
 use Rattle.std.specs.List.{cons_option}
-use Rattle.search_query.specs.Answers.{Seens, scope_seen, test_of, is_new, kept, hit_at, passing, IsMemo, Remembers, more_seen}
+use Rattle.search_query.specs.Answers.{Seens, scope_seen, test_of, is_new, kept, hit_at, passing, IsMemo, Remembers, IsKnown, more_seen}
 
 pub read_at : {X : Type 0} (memo : List X) (texts : List (List ℕ)) (n : ℕ) (command : List ℕ) (x : X) → slice_get texts n ≡ Some command → length memo ≡ length texts → x ≡ get_or memo n x → slice_get memo n ≡ Some x
 read_at memo texts n command x named long is =
     let within = slice_get_within texts n command named in
     slice_get_read memo (length memo) n x refl (omega arith) is
+
+-- where each is known, none isn't
+pub not_known : {P : Type 0} (memo : List (Option Bool)) (n : ℕ) → slice_get memo n ≡ Some None → IsKnown memo → P
+not_known memo n at known = let is : false ≡ true = known n None at in absurd cc
 
 read_set : {X : Type 0} (xs : List X) (i n : ℕ) (v o : X) → slice_get (slice_set xs i v) n ≡ Some o → ((n ≡ i) × (o ≡ v)) ⊎ (slice_get xs n ≡ Some o)
 read_set [] i n v o e = inr e

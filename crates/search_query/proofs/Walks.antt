@@ -1,6 +1,7 @@
 -- A walk over what is shown finds what a search is to answer.
 use Rattle.std.proofs.Common.{◌≡◌, ℕ, zero, suc, ◌+◌, ◌-◌, ◌≤◌, ◌<◌, List, [], ◌∷◌, ◌++◌, length, drop, Option, Some, None, Bool, true, false, cond, get_or, inl, refl, sym, ap, subst, ◌∙◌, arith}
-use Rattle.std.specs.List.{filter, filter_map, cons_option, All, AllByRecursion}
+use Rattle.std.specs.List.{filter, filter_map, cons_option, list_any, All, AllByRecursion}
+use Rattle.std.specs.Option.{unwrap_or}
 use Rattle.std.proofs.lemmas.Option.{slice_get_within, get_or_from_slice_get}
 use Rattle.std.proofs.Math.Seq.{drop-nil}
 use Rattle.std.proofs.lemmas.List.{append_assoc, length-append, length-map}
@@ -12,10 +13,11 @@ use Rattle.history_view.specs.declared.walk.Walked.{Walked}
 use Rattle.history_view.specs.ViewState.{ViewState}
 use Rattle.history_view.specs.Shown.{command_seen}
 use Rattle.history_view.specs.Walk.{IsRow, shown_command, walked_in, newest_of}
-use Rattle.std.specs.Prelude.{bytes_eq, not, ◌&&◌, ◌||◌}
+use Rattle.std.specs.Prelude.{IsSome, slice_get, bytes_eq, not, ◌&&◌, ◌||◌}
+use Rattle.search_query.proofs.Memos.{row_within, no_hit}
 use Rattle.std.proofs.lemmas.Slice.Eq.{bytes_eq-Decides}
 use Rattle.view_rules.specs.Answers.{in_scope, is_found, firsts}
-use Rattle.search_query.specs.Answers.{Seens, none_seen, more_seen, scope_seen, query_seen, test_of, passing, is_new, IsAnswerOf, Remembers, IsMemo, seen_of, weight_of, kept, uniques, hit_at, answer_from, IsOnWay}
+use Rattle.search_query.specs.Answers.{Seens, none_seen, more_seen, scope_seen, query_seen, test_of, passing, is_new, IsAnswerOf, Remembers, IsKnown, IsTold, IsMemo, seen_of, weight_of, kept, uniques, hit_at, answer_from, IsOnWay}
 
 -- ---- lists
 
@@ -248,17 +250,17 @@ module _ (query : Query) (s : ViewState) where
 
 -- ---- its beginning
 
-blank_remembers : (texts : List (List ℕ)) (test : List ℕ → Bool) (memo : List (Option Bool)) → All (λ (o : Option Bool). o ≡ None) memo → Remembers texts test none_seen memo
+pub blank_remembers : (texts : List (List ℕ)) (test : List ℕ → Bool) (memo : List (Option Bool)) → All (λ (o : Option Bool). o ≡ None) memo → Remembers texts test none_seen memo
 blank_remembers texts test memo all n o command at named =
     let inside = slice_get_within memo n o at in
     let there : get_or memo n None ≡ o = get_or_from_slice_get memo n o None at in
     let none : get_or memo n None ≡ None = all n None inside in
     subst (λ (p : Option Bool). IsMemo command test none_seen p) (sym none ∙ there) refl
 
-pub begins_walk : (query : Query) (s : ViewState) (all left : List Walked) (memo : List (Option Bool)) (hits : List ShownCommand) (first : ℕ) → left ≡ all → AllByRecursion (IsRow s) all → All (λ (o : Option Bool). o ≡ None) memo → length memo ≡ length s.texts
+pub begins_walk : (query : Query) (s : ViewState) (all left : List Walked) (memo : List (Option Bool)) (hits : List ShownCommand) (first : ℕ) → left ≡ all → AllByRecursion (IsRow s) all → Remembers s.texts (test_of query) none_seen memo → length memo ≡ length s.texts
     → hits ≡ [] → IsOnWay query s all left memo hits 0 query.offset first first
-begins_walk query s all left memo hits first same rows blank long none =
-    let plain : IsOnWay query s all all memo [] 0 query.offset first first = record { seen = none_seen; remembers = blank_remembers s.texts (test_of query) memo blank; long = long; rows = rows; weighed = refl; fits = (omega arith, inl (omega arith)); whole = refl; counted = omega arith } in
+begins_walk query s all left memo hits first same rows remembers long none =
+    let plain : IsOnWay query s all all memo [] 0 query.offset first first = record { seen = none_seen; remembers = remembers; long = long; rows = rows; weighed = refl; fits = (omega arith, inl (omega arith)); whole = refl; counted = omega arith } in
     let empty : IsOnWay query s all all memo hits 0 query.offset first first = subst (λ (hs : List ShownCommand). IsOnWay query s all all memo hs 0 query.offset first first) (sym none) plain in
     subst (λ (ws : List Walked). IsOnWay query s all ws memo hits 0 query.offset first first) (sym same) empty
 
@@ -277,3 +279,45 @@ tested_so_far query s left memo hits bytes skip first steps way =
     let counted = way.counted in
     let all = passing_all query s in
     omega arith
+
+-- what is told of texts is remembered of them
+pub told_remembers : (texts : List (List ℕ)) (test : List ℕ → Bool) (memo : List (Option Bool)) → IsTold texts test memo → Remembers texts test none_seen memo
+told_remembers texts test memo told n o command at named = subst (λ (p : Option Bool). IsMemo command test none_seen p) (sym (told n o command at named)) (sym (and_true (test command)))
+
+pub told_known : (texts : List (List ℕ)) (test : List ℕ → Bool) (memo : List (Option Bool)) → length memo ≡ length texts → IsTold texts test memo → IsKnown memo
+told_known texts test memo long told n o at =
+    let within = slice_get_within memo n o at in
+    let there = inside texts n (omega (arith, within, long)) in
+    subst (λ (p : Option Bool). IsSome p) (sym (told n o there.0 at there.1)) refl
+  where
+    inside : (ts : List (List ℕ)) (k : ℕ) → k < length ts → (t : List ℕ) × (slice_get ts k ≡ Some t)
+    inside [] k below = absurd (omega (arith, below))
+    inside (t ∷ ts) zero below = (t, refl)
+    inside (t ∷ ts) (suc k) below = inside ts k (omega (arith, below))
+
+-- ---- nothing to be found
+
+module _ (query : Query) (s : ViewState) (memo : List (Option Bool)) (remembers : Remembers s.texts (test_of query) none_seen memo) (long : length memo ≡ length s.texts) (misses : list_any (λ (o : Option Bool). unwrap_or o true) memo ≡ false) where
+  miss_at : (os : List (Option Bool)) (n : ℕ) → list_any (λ (o : Option Bool). unwrap_or o true) os ≡ false → n < length os → slice_get os n ≡ Some (Some false)
+  miss_at [] n none below = absurd (omega (arith, below))
+  miss_at (None ∷ os) n none below = absurd cc
+  miss_at (Some true ∷ os) n none below = absurd cc
+  miss_at (Some false ∷ os) zero none below = refl
+  miss_at (Some false ∷ os) (suc n) none below = miss_at os n none (omega (arith, below))
+
+  none_hit : (w : Walked) → IsRow s w → hit_at query none_seen s w ≡ None
+  none_hit w row =
+      let within = row_within s w row in
+      sym (no_hit query s w none_seen memo row remembers (miss_at memo w.numbers.command misses (omega (arith, within, long))))
+
+  none_hits : (ws : List Walked) → AllByRecursion (IsRow s) ws → filter_map (hit_at query none_seen s) ws ≡ []
+  none_hits [] rows = refl
+  none_hits (w ∷ ws) rows = ap (λ (o : Option HistoryRecord). cons_option o (filter_map (hit_at query none_seen s) ws)) (none_hit w rows.0) ∙ none_hits ws rows.1
+
+  pub nothing_found : (hits : List ShownCommand) → hits ≡ [] → AllByRecursion (IsRow s) (walked_in s.order) → IsAnswerOf query (newest_of s) (seen_of hits)
+  nothing_found hits none rows = subst (λ (hs : List ShownCommand). IsAnswerOf query (newest_of s) (seen_of hs)) (sym none) record {
+    rest = [];
+    begins = sym (whole_of query s) ∙ ap (λ (hs : List HistoryRecord). drop query.offset (uniques query.unique hs)) (none_hits (walked_in s.order) rows) ∙ ap (drop query.offset) (none_left query s query.unique) ∙ drop-nil query.offset;
+    fits = (omega arith, inl (omega arith));
+    most = λ next others e. absurd cc;
+  }

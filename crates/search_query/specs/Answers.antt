@@ -1,5 +1,5 @@
 -- What a search answers, over commands that come the newest first.
-use Rattle.std.specs.Prelude.{◌≡◌, ℕ, ◌||◌, not, ◌+◌, ◌-◌, ◌≤◌, length, ◌^◌, min, map, ◌++◌, List, [], drop, Bool, false, ◌&&◌, cond, bytes_eq, Option, None, Some, slice_get}
+use Rattle.std.specs.Prelude.{◌≡◌, ℕ, ◌||◌, not, ◌+◌, ◌/◌, ◌-◌, ◌≤◌, length, ◌^◌, min, map, ◌++◌, List, [], drop, Bool, false, ◌&&◌, cond, bytes_eq, Option, None, Some, IsSome, slice_get}
 use Rattle.std.specs.List.Sorted.{IsSortedBy}
 use Rattle.std.specs.List.{filter, filter_map, sum_by, AllByRecursion}
 use Rattle.history_view.specs.declared.shown.ShownCommand.{ShownCommand}
@@ -59,6 +59,29 @@ IsMemo command test seen (Some b) = b ≡ (test command && not (seen command))
 
 abbrev pub Remembers : (texts : List (List ℕ)) → (test : List ℕ → Bool) → Seens → List (Option Bool) → Type 0
 Remembers texts test seen memo = (n : ℕ) (o : Option Bool) (command : List ℕ) → slice_get memo n ≡ Some o → slice_get texts n ≡ Some command → IsMemo command test seen o
+
+-- of each text it is known whether it matches
+abbrev pub IsKnown : List (Option Bool) → Type 0
+IsKnown memo = (n : ℕ) (o : Option Bool) → slice_get memo n ≡ Some o → IsSome o
+
+-- and it is what the test says
+abbrev pub IsTold : (texts : List (List ℕ)) → (test : List ℕ → Bool) → List (Option Bool) → Type 0
+IsTold texts test memo = (n : ℕ) (o : Option Bool) (command : List ℕ) → slice_get memo n ≡ Some o → slice_get texts n ≡ Some command → o ≡ Some (test command)
+
+-- one fewer of so many, or of all; nothing where none is left
+abbrev pub IsOneFewer : (left : Option ℕ) → Option (Option ℕ) → Type 0
+IsOneFewer left None = left ≡ Some 0
+IsOneFewer left (Some None) = left ≡ None
+IsOneFewer left (Some (Some many)) = left ≡ Some (many + 1)
+
+-- so many tests were made, and no more than so many commands were walked to, where there is such a bound
+abbrev pub IsBounded : (first steps : ℕ) → (most left : Option ℕ) → Type 0
+IsBounded first steps None left = left ≡ None
+IsBounded first steps (Some most) left = (many : ℕ) × (left ≡ Some many) × (steps + many ≤ first + most)
+
+-- of the texts of a block none matches
+abbrev pub PassesBy : (texts : List (List ℕ)) → (test : List ℕ → Bool) → ℕ → Type 0
+PassesBy texts test i = (n : ℕ) (command : List ℕ) → n / 64 ≡ i → slice_get texts n ≡ Some command → test command ≡ false
 
 abbrev pub seen_of : List ShownCommand → List HistoryRecord
 seen_of hits = map command_seen hits

@@ -4,8 +4,9 @@
 //! pass the filter and match, the newest first, of equal commands only the first where they are to be
 //! unique, without the first ones, and as many as one reply may show. It walks the view's order from the
 //! newest on; what is known of a text is remembered by its number, so that each text is tested once and
-//! equal commands are known without comparing them. It stands on `history_view`, and on `memchr` for
-//! substrings.
+//! equal commands are known without comparing them. Where the newest commands don't tell the answer, all texts are looked
+//! through, many at once where none of them matches; then it is known which match, and a search that finds none ends there.
+//! It stands on `history_view`, and on `memchr` for substrings.
 #![tactic(auto)]
 
 mod matching;

@@ -1,6 +1,6 @@
 //! Whether a command matches the text of a query.
 
-ghost use Rattle.std.specs.Prelude.{◌≡◌, false, IfOk, map, eqb};
+ghost use Rattle.std.specs.Prelude.{◌≡◌, ℕ, List, true, false, IfOk, map, eqb};
 ghost use Rattle.std.specs.Char.{is_ascii_uppercase, to_ascii_lowercase};
 ghost use Rattle.std.specs.List.{list_any, starts_with};
 ghost use Rattle.definitions.specs.Search.{matches_by, stands_in};
@@ -69,6 +69,17 @@ impl<'a> Matching<'a> {
         }
         let folded = folded(alloc, command)?;
         Ok(is_match(self.mode, &self.finder, self.text, folded.as_slice()))
+    }
+
+    /// Whether one look at texts that stand folded in a block tells that none of them matches. Of a text with a capital it
+    /// tells nothing.
+    pub fn passes_by(&self, block: &[u8]) -> bool
+        ensures { result ≡ true → (command : List ℕ) → stands_in (map to_ascii_lowercase command) block.now ≡ true → matches_by self.now.mode self.now.text command ≡ false }
+    {
+        if self.is_exact {
+            return false;
+        }
+        !contains(&self.finder, block)
     }
 }
 

@@ -1,10 +1,11 @@
 //! What a search remembers of texts: each text is tested once.
 
-ghost use Rattle.std.specs.Prelude.{◌≡◌, ℕ, Bool, List, ◌+◌, true, false, ◌<◌, ◌≤◌, ◌^◌, length, IfOk, slice_get, Some, ◌&&◌, not};
-ghost use Rattle.std.specs.List.{All};
+ghost use Rattle.std.specs.Prelude.{◌≡◌, ◌≢◌, ℕ, Bool, List, ◌+◌, ◌/◌, ◌%◌, true, false, ◌<◌, ◌≤◌, length, IfOk, slice_get, Some, ◌&&◌, not};
+ghost use Rattle.std.specs.List.{All, list_any};
+ghost use Rattle.std.specs.Option.{unwrap_or};
 ghost use Rattle.definitions.specs.Search.{matches_by};
 ghost use Rattle.history_view.specs.Texts.{AreDistinct};
-ghost use Rattle.search_query.specs.Answers.{Seens, Remembers, more_seen};
+ghost use Rattle.search_query.specs.Answers.{Seens, Remembers, IsKnown, IsTold, PassesBy, more_seen};
 
 use crate::matching::Matching;
 use history_view::HistoryView;
@@ -50,16 +51,16 @@ pub fn matches(
 ) -> Result<bool, NoMemory>
     requires named { slice_get view.now.texts number ≡ Some command.now }
     requires long { length memo.old.items ≡ length view.now.texts }
-    requires steps { steps.old + 1 < 2 ^ 64 }
     ensures matches { (seen : Seens) → Remembers view.now.texts (matches_by matching.now.mode matching.now.text) seen memo.old.items → IfOk result (λ b. b ≡ (matches_by matching.now.mode matching.now.text command.now && not (seen command.now))) }
     ensures memo { (seen : Seens) → Remembers view.now.texts (matches_by matching.now.mode matching.now.text) seen memo.old.items → Remembers view.now.texts (matches_by matching.now.mode matching.now.text) seen memo.new.items }
     ensures long { length memo.new.items ≡ length view.now.texts }
     ensures steps { steps.new ≤ steps.old + 1 }
+    ensures known { IsKnown memo.old.items → IsKnown memo.new.items × (steps.new ≡ steps.old) }
 {
     match memo[number as usize] {
         Some(known) => Ok(known),
         None => {
-            *steps += 1;
+            *steps = steps.saturating_add(1);
             let known = matching.matches(alloc, command)?;
             memo[number as usize] = Some(known);
             Ok(known)
@@ -74,9 +75,81 @@ pub fn see(memo: &mut Memo, number: u32, view: &HistoryView, query: &Query)
     requires long { length memo.old.items ≡ length view.now.texts }
     ensures memo { (seen : Seens) (test : List ℕ → Bool) (command : List ℕ) → slice_get view.now.texts number ≡ Some command → Remembers view.now.texts test seen memo.old.items → Remembers view.now.texts test (more_seen query.now.unique seen command) memo.new.items }
     ensures long { length memo.new.items ≡ length view.now.texts }
+    ensures known { IsKnown memo.old.items → IsKnown memo.new.items }
 {
     if !query.unique {
         return;
     }
     memo[number as usize] = Some(false);
+}
+
+/// Whether the text of each number matches. Where nothing in a block of texts does, one look passes by all of them. Each
+/// text is one step.
+///
+/// # Errors
+///
+/// [`NoMemory`].
+pub fn told(
+    alloc: Global,
+    matching: &Matching<'_>,
+    view: &HistoryView,
+    steps: &mut u64,
+) -> Result<Memo, NoMemory>
+    ensures told { IfOk result (λ memo. IsTold view.now.texts (matches_by matching.now.mode matching.now.text) memo.items) }
+    ensures long { IfOk result (λ memo. length memo.items ≡ length view.now.texts) }
+    ensures distinct { AreDistinct view.now.texts }
+    ensures steps { steps.new ≤ steps.old + length view.now.texts }
+{
+    let count = view.text_count();
+    *steps = steps.saturating_add(count as u64);
+    let mut memo = Vec::new(alloc);
+    let mut is_passed = false;
+    for number in 0..count {
+        is_passed = passes_by(matching, view, number, is_passed);
+        let known = is_match(alloc, matching, view, number, is_passed)?;
+        memo.push(Some(known))?;
+    }
+    Ok(memo)
+}
+
+/// Whether nothing matches in the block of this number's text, where it was passed by before if the block is no new one.
+fn passes_by(matching: &Matching<'_>, view: &HistoryView, number: usize, before: bool) -> bool
+    requires { number % 64 ≢ 0 → before ≡ true → PassesBy view.now.texts (matches_by matching.now.mode matching.now.text) (number / 64) }
+    ensures { result ≡ true → PassesBy view.now.texts (matches_by matching.now.mode matching.now.text) (number / 64) }
+{
+    if number % 64 != 0 {
+        return before;
+    }
+    matching.passes_by(view.folded(number / 64))
+}
+
+/// Whether the text of this number matches.
+///
+/// # Errors
+///
+/// [`NoMemory`].
+fn is_match(
+    alloc: Global,
+    matching: &Matching<'_>,
+    view: &HistoryView,
+    number: usize,
+    is_passed: bool,
+) -> Result<bool, NoMemory>
+    requires { is_passed ≡ true → PassesBy view.now.texts (matches_by matching.now.mode matching.now.text) (number / 64) }
+    ensures { IfOk result (λ b. (text : List ℕ) → slice_get view.now.texts number ≡ Some text → b ≡ matches_by matching.now.mode matching.now.text text) }
+{
+    if is_passed {
+        return Ok(false);
+    }
+    match view.numbered(number) {
+        Some(text) => matching.matches(alloc, text),
+        None => Ok(false),
+    }
+}
+
+/// Whether a text may match, by what is remembered.
+pub fn may_match(memo: &Memo) -> bool
+    ensures { result ≡ list_any (λ o. unwrap_or o true) memo.now.items }
+{
+    memo.iter().any(|known| known.unwrap_or(true))
 }

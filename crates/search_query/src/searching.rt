@@ -1,6 +1,6 @@
 //! A search, from the newest command on.
 
-ghost use Rattle.std.specs.Prelude.{◌≡◌, ℕ, List, ◌+◌, ◌<◌, ◌≤◌, ◌^◌, [], ◌∷◌, length, IfOk, OnOk, OnErr};
+ghost use Rattle.std.specs.Prelude.{◌≡◌, ℕ, List, ◌+◌, ◌<◌, ◌≤◌, ◌^◌, [], ◌∷◌, true, length, None, Some, IfOk, IfSome, IsSome};
 ghost use Rattle.std.specs.List.{filter};
 ghost use Rattle.std.specs.Option.{option_map};
 ghost use Rattle.view_rules.specs.Changes.{Change, HaveDistinctPlaces};
@@ -10,15 +10,18 @@ ghost use Rattle.history_view.specs.Shown.{command_seen};
 ghost use Rattle.history_view.specs.Buckets.{Selects};
 ghost use Rattle.history_view.specs.Texts.{AreDistinct};
 ghost use Rattle.history_view.specs.Walk.{newest_of, IsRow};
-ghost use Rattle.search_query.specs.Answers.{Seens, scope_seen, query_seen, test_of, wanted_of, IsAnswerOf, ListsShown, Remembers, passing, hit_at, seen_after, seen_of};
+ghost use Rattle.search_query.specs.Answers.{Seens, scope_seen, query_seen, test_of, wanted_of, none_seen, IsAnswerOf, ListsShown, Remembers, IsKnown, IsOneFewer, passing, hit_at, seen_after, seen_of};
 
 use crate::matching::Matching;
-use crate::memo::{Memo, blank, is_miss, matches, see};
+use crate::memo::{Memo, blank, is_miss, matches, may_match, see, told};
 use crate::page::take;
 use history_view::{HistoryView, ScopeNumber, ShownCommand, Walked};
 use plain_types::NoMemory;
 use record_model::Query;
 use std::alloc::Global;
+
+/// So many commands are walked to, the newest first, before all texts are looked through.
+const FIRST_COMMANDS: u64 = 2_048;
 
 /// The hits of the query, the newest first, of equal ones the first where they are to be unique, without the first `offset`,
 /// and as many as one reply may show. The limit is at least 1. Each match test of a command is one step; there is at most
@@ -40,10 +43,127 @@ pub fn search<'a>(
     ensures steps { steps.new ≤ steps.old + length (filter (in_scope (scope_seen query.now.filter)) (newest_of view.now)) }
 {
     let matching = Matching::new(query.mode, query.text.as_bytes());
-    walk(alloc, view, query, &matching, steps)
+    found(alloc, view, query, &matching, steps)
 }
 
 /// The same, with the text of the query ready to be looked for.
+///
+/// # Errors
+///
+/// [`NoMemory`].
+fn found<'a>(
+    alloc: Global,
+    view: &'a HistoryView,
+    query: &Query,
+    matching: &Matching<'_>,
+    steps: &mut u64,
+) -> Result<Vec<ShownCommand<'a>>, NoMemory>
+    requires limit { 1 ≤ query.now.limit }
+    requires matching { matching.now ≡ wanted_of query.now }
+    ensures page { IfOk result (λ hits. IsAnswerOf query.now (newest_of view.now) (seen_of hits.items)) }
+    ensures listed { IfOk result (λ _. ListsShown view.now (newest_of view.now)) }
+    ensures steps { steps.new ≤ steps.old + length (filter (in_scope (scope_seen query.now.filter)) (newest_of view.now)) }
+{
+    let texts = view.text_count();
+    if !is_worth_a_look(view.bucket_len(&query.filter), texts as u64) {
+        let memo = blank(alloc, texts)?;
+        return whole(alloc, view, query, matching, memo, steps);
+    }
+    match begun(alloc, view, query, matching, steps)? {
+        Some(hits) => Ok(hits),
+        None => looked_through(alloc, view, query, matching, steps),
+    }
+}
+
+/// Whether all texts may be looked through behind the first commands, for no more tests than there are commands.
+fn is_worth_a_look(commands: u64, texts: u64) -> bool
+    ensures { result ≡ true → texts + 2048 ≤ commands }
+{
+    commands >= FIRST_COMMANDS && texts <= commands - FIRST_COMMANDS
+}
+
+/// The same, once it is known of all texts whether they match.
+///
+/// # Errors
+///
+/// [`NoMemory`].
+fn looked_through<'a>(
+    alloc: Global,
+    view: &'a HistoryView,
+    query: &Query,
+    matching: &Matching<'_>,
+    steps: &mut u64,
+) -> Result<Vec<ShownCommand<'a>>, NoMemory>
+    requires limit { 1 ≤ query.now.limit }
+    requires matching { matching.now ≡ wanted_of query.now }
+    ensures page { IfOk result (λ hits. IsAnswerOf query.now (newest_of view.now) (seen_of hits.items)) }
+    ensures listed { IfOk result (λ _. ListsShown view.now (newest_of view.now)) }
+    ensures steps { steps.new ≤ steps.old + length view.now.texts }
+{
+    let memo = told(alloc, matching, view, steps)?;
+    whole(alloc, view, query, matching, memo, steps)
+}
+
+/// The same, if the first commands tell it.
+///
+/// # Errors
+///
+/// [`NoMemory`].
+fn begun<'a>(
+    alloc: Global,
+    view: &'a HistoryView,
+    query: &Query,
+    matching: &Matching<'_>,
+    steps: &mut u64,
+) -> Result<Option<Vec<ShownCommand<'a>>>, NoMemory>
+    requires limit { 1 ≤ query.now.limit }
+    requires matching { matching.now ≡ wanted_of query.now }
+    ensures page { IfOk result (λ found. IfSome found (λ hits. IsAnswerOf query.now (newest_of view.now) (seen_of hits.items))) }
+    ensures listed { IfOk result (λ _. ListsShown view.now (newest_of view.now)) }
+    ensures steps { steps.new ≤ steps.old + 2048 }
+{
+    let memo = blank(alloc, view.text_count())?;
+    walk(
+        alloc,
+        view,
+        query,
+        matching,
+        memo,
+        Some(FIRST_COMMANDS),
+        steps,
+    )
+}
+
+/// The same by all commands, with what is known of their texts.
+///
+/// # Errors
+///
+/// [`NoMemory`].
+fn whole<'a>(
+    alloc: Global,
+    view: &'a HistoryView,
+    query: &Query,
+    matching: &Matching<'_>,
+    memo: Memo,
+    steps: &mut u64,
+) -> Result<Vec<ShownCommand<'a>>, NoMemory>
+    requires limit { 1 ≤ query.now.limit }
+    requires matching { matching.now ≡ wanted_of query.now }
+    requires distinct { AreDistinct view.now.texts }
+    requires remembers { Remembers view.now.texts (test_of query.now) none_seen memo.items }
+    requires long { length memo.items ≡ length view.now.texts }
+    ensures page { IfOk result (λ hits. IsAnswerOf query.now (newest_of view.now) (seen_of hits.items)) }
+    ensures listed { IfOk result (λ _. ListsShown view.now (newest_of view.now)) }
+    ensures steps { steps.new ≤ steps.old + length (filter (in_scope (scope_seen query.now.filter)) (newest_of view.now)) }
+    ensures known { IsKnown memo.items → steps.new ≡ steps.old }
+{
+    match walk(alloc, view, query, matching, memo, None, steps)? {
+        Some(hits) => Ok(hits),
+        None => unreachable!(),
+    }
+}
+
+/// The same by at most so many commands. It answers none where they don't tell.
 ///
 /// # Errors
 ///
@@ -53,24 +173,40 @@ fn walk<'a>(
     view: &'a HistoryView,
     query: &Query,
     matching: &Matching<'_>,
+    memo: Memo,
+    most: Option<u64>,
     steps: &mut u64,
-) -> Result<Vec<ShownCommand<'a>>, NoMemory>
+) -> Result<Option<Vec<ShownCommand<'a>>>, NoMemory>
     requires limit { 1 ≤ query.now.limit }
     requires matching { matching.now ≡ wanted_of query.now }
-    requires steps { steps.old + length (filter (in_scope (scope_seen query.now.filter)) (newest_of view.now)) < 2 ^ 64 }
-    ensures page { IfOk result (λ hits. IsAnswerOf query.now (newest_of view.now) (seen_of hits.items)) }
+    requires distinct { AreDistinct view.now.texts }
+    requires remembers { Remembers view.now.texts (test_of query.now) none_seen memo.items }
+    requires long { length memo.items ≡ length view.now.texts }
+    ensures page { IfOk result (λ found. IfSome found (λ hits. IsAnswerOf query.now (newest_of view.now) (seen_of hits.items))) }
+    ensures all { most ≡ None → IfOk result (λ found. IsSome found) }
     ensures listed { IfOk result (λ _. ListsShown view.now (newest_of view.now)) }
     ensures steps { steps.new ≤ steps.old + length (filter (in_scope (scope_seen query.now.filter)) (newest_of view.now)) }
+    ensures most { IfSome most (λ n. steps.new ≤ steps.old + n) }
+    ensures known { IsKnown memo.items → steps.new ≡ steps.old }
 {
-    let mut memo = blank(alloc, view.text_count())?;
+    let rows = view.newest();
+    if !may_match(&memo) {
+        return Ok(Some(Vec::new(alloc)));
+    }
+    let mut memo = memo;
+    let mut left = most;
     let mut hits = Vec::new(alloc);
     let mut bytes = 0;
     let mut skip = query.offset;
     let scope = view.scope(&query.filter);
-    for walked in view.newest() {
+    for walked in rows {
         if hits.len() >= query.limit as usize {
             break;
         }
+        let Some(fewer) = one_fewer(left) else {
+            return Ok(None);
+        };
+        left = fewer;
         let found = hit(
             view, alloc, query, &scope, matching, &mut memo, walked, steps,
         )?;
@@ -82,7 +218,18 @@ fn walk<'a>(
             }
         }
     }
-    Ok(hits)
+    Ok(Some(hits))
+}
+
+/// One fewer of so many, or of all; nothing where none is left.
+fn one_fewer(left: Option<u64>) -> Option<Option<u64>>
+    ensures { IsOneFewer left result }
+{
+    match left {
+        None => Some(None),
+        Some(0) => None,
+        Some(many) => Some(Some(many - 1)),
+    }
 }
 
 /// The hit that was walked to, if it is one.
@@ -105,11 +252,12 @@ fn hit<'a>(
     requires matching { matching.now ≡ wanted_of query.now }
     requires distinct { AreDistinct view.now.texts }
     requires long { length memo.old.items ≡ length view.now.texts }
-    requires steps { steps.old + passing query.now view.now (walked ∷ []) < 2 ^ 64 }
     ensures hit { (seen : Seens) → Remembers view.now.texts (test_of query.now) seen memo.old.items → IfOk result (λ found. option_map command_seen found ≡ hit_at query.now seen view.now walked) }
     ensures memo { (seen : Seens) → Remembers view.now.texts (test_of query.now) seen memo.old.items → IfOk result (λ found. Remembers view.now.texts (test_of query.now) (seen_after query.now.unique seen (option_map command_seen found)) memo.new.items) }
     ensures long { length memo.new.items ≡ length view.now.texts }
     ensures steps { steps.new ≤ steps.old + passing query.now view.now (walked ∷ []) }
+    ensures one { steps.new ≤ steps.old + 1 }
+    ensures known { IsKnown memo.old.items → IsKnown memo.new.items × (steps.new ≡ steps.old) }
 {
     if !scope.has(&walked.numbers) {
         return Ok(None);

@@ -190,3 +190,46 @@ fn a_session_of_many_is_searched_in_its_own_steps(rt: HostRuntime) -> Result<(),
     assert!(rt; steps(&rt, &view, &query)? <= 100);
     Ok(())
 }
+
+/// A view of 2,999 commands in one session: `Far back` first, then 70 texts of four digits over and over.
+fn far_back(rt: &HostRuntime) -> Result<HistoryView, NoMemory> {
+    let mut view = HistoryView::new(rt.alloc());
+    end(rt, &mut view, 1, text(rt, "Far back")?, text(rt, "s1")?)?;
+    for number in 2..3000 {
+        end(
+            rt,
+            &mut view,
+            number,
+            digits(rt, number % 70)?,
+            text(rt, "s1")?,
+        )?;
+    }
+    Ok(view)
+}
+
+#[test]
+fn what_stands_far_back_is_found(rt: HostRuntime) -> Result<(), Fail> {
+    let view = far_back(&rt)?;
+    let mut query = all(text(&rt, "far")?, 10);
+    assert_eq!(rt; times(&rt, &view, &query)?, (1, 0, 1));
+    query.text = text(&rt, "Far")?;
+    assert_eq!(rt; times(&rt, &view, &query)?, (1, 0, 1));
+    query.text = text(&rt, "back")?;
+    assert_eq!(rt; times(&rt, &view, &query)?, (0, 0, 0));
+    query.mode = Mode::Substring;
+    assert_eq!(rt; times(&rt, &view, &query)?, (1, 0, 1));
+    Ok(())
+}
+
+#[test]
+fn what_is_nowhere_is_not_found(rt: HostRuntime) -> Result<(), Fail> {
+    let view = far_back(&rt)?;
+    let mut query = all(text(&rt, "none")?, 10);
+    assert_eq!(rt; times(&rt, &view, &query)?, (0, 0, 0));
+    query.text = text(&rt, "0069")?;
+    query.unique = true;
+    assert_eq!(rt; times(&rt, &view, &query)?, (2939, 0, 1));
+    query.offset = 1;
+    assert_eq!(rt; times(&rt, &view, &query)?, (0, 0, 0));
+    Ok(())
+}

@@ -76,12 +76,6 @@ one_passes query s w scope row selects has =
     let h : HistoryRecord = command_of s.texts w.id row.creation in
     passing_one query s w h (row_shown s w row) (sym (scope_of query s w scope row selects h (row_shown s w row)) ∙ has)
 
-pub matches-requires-clause-steps : goal.matches-requires-clause-steps
-matches-requires-clause-steps c =
-    let one = one_passes c.args.query.now c.args.view.now c.args.walked c.args.scope.now c.requires.row c.requires.scope (sym c.has.ensures ∙ c.if-not-has.false) in
-    let room = c.requires.steps in
-    omega (arith, one, room)
-
 pub returns-clause-steps : goal.returns-clause-steps
 returns-clause-steps c =
     let one = one_passes c.args.query.now c.args.view.now c.args.walked c.args.scope.now c.requires.row c.requires.scope (sym c.has.ensures ∙ c.if-not-has.false) in

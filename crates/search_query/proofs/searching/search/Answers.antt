@@ -16,4 +16,4 @@ answer_of query s newest (Ok hits) page lists = answered query s newest (seen_of
 answer_of query s newest (Err none) page lists = tt
 
 pub returns-clause-answer : goal.returns-clause-answer
-returns-clause-answer c = answer_of c.args.query.now c.args.view.now _ c.walk.result c.walk.ensures.page c.walk.ensures.listed
+returns-clause-answer c = answer_of c.args.query.now c.args.view.now _ c.found.result c.found.ensures.page c.found.ensures.listed

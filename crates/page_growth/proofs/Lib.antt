@@ -1,0 +1,3 @@
+pub mod Passing
+pub mod Chosen
+pub mod Taking

@@ -186,6 +186,7 @@ impl<D: Disk> RecordLog<D> {
         ensures below { KeepsBelow self.old.gate self.old.disk.history self.new.disk.history }
         ensures silent { self.old.disk.history ≡ None → self.new.disk.history ≡ None }
         ensures host { self.new.host ≡ self.old.host }
+        ensures gate { self.old.gate ≤ self.new.gate }
     {
         match stage(&mut self.disk, self.gate, batch.bytes()) {
             Ok(()) => {}
@@ -211,6 +212,7 @@ impl<D: Disk> RecordLog<D> {
         ensures below { KeepsBelow self.old.gate self.old.disk.history self.new.disk.history }
         ensures silent { self.old.disk.history ≡ None → self.new.disk.history ≡ None }
         ensures host { self.new.host ≡ self.old.host }
+        ensures gate { self.old.gate ≤ self.new.gate }
     {
         let Some(count) = self.doubt else {
             unreachable!()

@@ -1,5 +1,5 @@
 -- What a log holds that stands on a disk, once that was synced.
-use Rattle.std.proofs.Common.{◌≡◌, ℕ, ◌+◌, ◌<◌, ◌≤◌, ◌^◌, List, [], ◌∷◌, ◌++◌, length, take, drop, Option, Some, None, Err, inl, refl, sym, ◌∙◌, ap, subst, arith}
+use Rattle.std.proofs.Common.{◌≡◌, ℕ, ◌+◌, ◌<◌, ◌≤◌, ◌^◌, List, [], take, drop, Option, Some, None, Err, inl, refl, sym, ◌∙◌, ap, subst, arith}
 use Rattle.std.specs.Prelude.{IfSome}
 use Rattle.record_rules.specs.Records.{Event}
 use Rattle.record_rules.specs.Journal.{Sound}
@@ -7,19 +7,19 @@ use Rattle.log_rules.specs.Opened.{opened_journal}
 use Rattle.log_rules.specs.Log.{Form, current_form, old_form, IsLogPrefix, StandsFor, NotALog, IsOldLog, DamagedAt}
 use Rattle.log_rules.proofs.Callers.{opened_events}
 use Rattle.disk_rules.specs.Disk.{Disk, IsDisk, Leaves}
-use Rattle.disk_rules.specs.Calls.{Sync, Done, FailedOrUnderWay}
+use Rattle.disk_rules.specs.Calls.{Sync, Done}
 use Rattle.disk_rules.specs.History.{History}
 use Rattle.disk_rules.proofs.Calls.{shows_is_left}
 use Rattle.disk_rules.proofs.Settled.{rest_is_settled}
 use Rattle.crash_rules.proofs.Crash.{rest_holds_log}
-use Rattle.at_edge.specs.Storing.{DiskSeen, Tells, Rests, Succeeds, Fails, Arrives}
+use Rattle.at_edge.specs.Storing.{DiskSeen, Tells, Rests, Succeeds, Fails}
 use Rattle.at_edge.proofs.DiskRuns.{arrives_nowhere, arrives_weaker, succeeds_on, fails_on}
 use Rattle.log_check.specs.Walks.{IsLogTo, Walked}
-use Rattle.log_check.proofs.Telling.{tells_so}
+use Rattle.log_check.proofs.Telling.{tells_so, tells_after}
 use Rattle.record_log.specs.Gates.{IsAtRest}
-use Rattle.record_log.specs.Journals.{LogSeen, HoldsAt}
+use Rattle.record_log.specs.Journals.{HoldsAt}
 use Rattle.record_log.specs.Opening.{Synced, LeavesNoMore, Finds, Opened, OpenCause}
-use Rattle.record_log.specs.OldLogs.{OldOpened}
+use Rattle.record_log.specs.OldLogs.{IsOldLogTo, OldOpened}
 use Rattle.record_log.specs.declared.opening.OpenFail.{OpenFail}
 use Rattle.record_log.specs.declared.opening.OpenFail.TheVariants as fails
 
@@ -129,6 +129,12 @@ pub old_opened : (old new : DiskSeen) (host gate : ℕ) → Rests old new → Wa
 old_opened old new host gate rests walked = record {
   events = walked.events;
   sound = walked.sound;
+  holds = tells_after old new (λ d. IsLogTo old_form host gate walked.events d.shows) rests walked.shown;
   shown = tells_so old (λ d. IsLogTo old_form host gate walked.events d.shows) (λ d. StandsFor old_form d.shows host (opened_journal walked.events)) (λ d log. stands_here old_form host gate walked.events d.shows log walked.sound) walked.shown;
   rests = rests;
 }
+
+pub old_is_sound : (old new : DiskSeen) (host gate : ℕ) → Rests old new → Walked old_form old host gate → Tells new (λ d. IsOldLogTo host gate d.shows)
+old_is_sound old new host gate rests walked =
+    tells_so new (λ d. IsLogTo old_form host gate walked.events d.shows) (λ d. IsOldLogTo host gate d.shows) (λ d log. record { events = walked.events; log = log; sound = walked.sound })
+    (tells_after old new (λ d. IsLogTo old_form host gate walked.events d.shows) rests walked.shown)

@@ -1,17 +1,24 @@
 //! A log in the old form, which has no digests. It is only read.
 
-ghost use Rattle.std.specs.Prelude.{◌≡◌, None, MatchResult};
+ghost use Rattle.std.specs.Prelude.{◌≡◌, None, IfOk, MatchResult};
 ghost use Rattle.definitions.specs.Counts.{Rose};
-ghost use Rattle.at_edge.specs.Storing.{Rests};
-ghost use Rattle.record_log.specs.OldLogs.{FindsOld, OldCause, OldOpened};
+ghost use Rattle.log_rules.specs.Log.{old_form};
+ghost use Rattle.at_edge.specs.Storing.{Tells, Rests};
+ghost use Rattle.record_log.specs.Reading.{IsGateIn, FindsOldBatch, GivesWhole, ReadCause};
+ghost use Rattle.record_log.specs.OldLogs.{IsOldLogTo, FindsOld, OldCause, OldOpened};
 
 use crate::headers::{Header, read_first};
 use crate::opening::PIECE_BYTES;
-use crate::reading::zeros;
+use crate::reading::{ReadFail, read_batch_at, zeros};
+use crate::spots::Spot;
 use at_edge::{Disk, DiskFault};
 use log_check::{LogForm, WalkFail, find_closed_gate};
+use record_model::Event;
 use std::alloc::Global;
 use std::marker::Model;
+
+/// The offset of the first gate.
+const FIRST_GATE: u64 = 32;
 
 /// Why no old log was opened.
 #[derive(Clone, Copy, Debug, PartialEq, Eq)]
@@ -62,11 +69,14 @@ pub struct OldLog<D: Disk> {
 }
 
 impl<D: Disk> Model for OldLog<D> {
-    ghost use Rattle.record_log.specs.OldLogs.{OldSeen};
+    ghost use Rattle.at_edge.specs.Storing.{Tells};
+    ghost use Rattle.record_log.specs.OldLogs.{OldSeen, IsOldLogTo};
 
     ghost Value = { OldSeen };
 
     ghost view = { λ l. record { disk = D.disk l.disk; host = l.host; gate = l.gate } };
+
+    ghost invariant = { λ l. Tells (D.disk l.disk) (λ d. IsOldLogTo l.host l.gate d.shows) };
 }
 
 impl<D: Disk> OldLog<D> {
@@ -92,6 +102,43 @@ impl<D: Disk> OldLog<D> {
         ensures { result ≡ self.now.host }
     {
         self.host
+    }
+
+    /// The offset of the first gate. Every old log is a sound one, where its disk tells.
+    pub(crate) fn first_gate(&self) -> u64
+        ensures first { result ≡ 32 }
+        ensures log { Tells self.now.disk (λ d. IsOldLogTo self.now.host self.now.gate d.shows) }
+    {
+        let _ = &self.gate;
+        FIRST_GATE
+    }
+
+    /// The batch whose gate stands at this offset, where it stands, and the offset of the next gate. `None` comes exactly
+    /// where the gate there is the closed one.
+    ///
+    /// # Errors
+    ///
+    /// [`ReadFail::DiskFault`], where the disk's count rose; [`ReadFail::NoMemory`].
+    pub fn batch_at(
+        &mut self,
+        alloc: Global,
+        offset: u64,
+    ) -> Result<Option<(Vec<Event>, Spot, u64)>, ReadFail>
+        requires { Tells self.old.disk (λ d. IsGateIn old_form self.old.gate offset d.shows) }
+        ensures batch { IfOk result (λ found. FindsOldBatch self.old.gate offset self.old.disk found) }
+        ensures whole { IfOk result (λ found. GivesWhole self.old.gate offset found) }
+        ensures rests { Rests self.old.disk self.new.disk }
+        ensures cause { ReadCause result self.old.disk self.new.disk }
+        ensures host { self.new.host ≡ self.old.host }
+        ensures gate { self.new.gate ≡ self.old.gate }
+    {
+        if offset == self.gate {
+            return Ok(None);
+        }
+        match read_batch_at(alloc, &mut self.disk, LogForm::Old, self.gate, offset) {
+            Ok((events, spot, next)) => Ok(Some((events, spot, next))),
+            Err(fail) => Err(fail),
+        }
     }
 
     /// The disk, of which the log is no longer.

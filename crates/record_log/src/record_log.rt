@@ -18,6 +18,7 @@ use crate::reading::{ReadFail, read_batch_at, read_one};
 use crate::ready::Ready;
 use crate::spots::Spot;
 use at_edge::{Disk, DiskFault};
+use log_check::LogForm;
 use log_format::{write_batch, write_header};
 use plain_types::NoMemory;
 use record_model::Event;
@@ -233,7 +234,7 @@ impl<D: Disk> RecordLog<D> {
 impl<D: Disk> RecordLog<D> {
     ghost use Rattle.at_edge.specs.Storing.{Tells};
     ghost use Rattle.record_model.specs.Seen.{event_seen};
-    ghost use Rattle.record_log.specs.Reading.{SomeEvent, EventBefore, IsGate, FindsBatch, ReadCause};
+    ghost use Rattle.record_log.specs.Reading.{SomeEvent, EventBefore, IsGate, FindsBatch, GivesWhole, ReadCause};
 
     /// The event at this place in the batch at a spot of this log.
     ///
@@ -266,6 +267,7 @@ impl<D: Disk> RecordLog<D> {
         requires settled { self.old.doubt ≡ None }
         requires gate { Tells self.old.disk (λ d. IsGate self.old.gate offset d.shows) }
         ensures batch { IfOk result (λ found. FindsBatch self.old.gate offset self.old.disk found) }
+        ensures whole { IfOk result (λ found. GivesWhole self.old.gate offset found) }
         ensures rests { Rests self.old.disk self.new.disk }
         ensures cause { ReadCause result self.old.disk self.new.disk }
         ensures host { self.new.host ≡ self.old.host }
@@ -275,13 +277,8 @@ impl<D: Disk> RecordLog<D> {
         if offset == self.gate {
             return Ok(None);
         }
-        match read_batch_at(alloc, &mut self.disk, self.gate, offset) {
-            Ok((events, spot)) => {
-                let next = offset
-                    .saturating_add(FIXED_BYTES)
-                    .saturating_add(u64::from(spot.count));
-                Ok(Some((events, spot, next)))
-            }
+        match read_batch_at(alloc, &mut self.disk, LogForm::Current, self.gate, offset) {
+            Ok((events, spot, next)) => Ok(Some((events, spot, next))),
             Err(fail) => Err(fail),
         }
     }

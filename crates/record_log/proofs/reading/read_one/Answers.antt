@@ -1,4 +1,4 @@
-use Rattle.std.proofs.Common.{◌≡◌, ◌≤◌, ◌<◌, length, arith}
+use Rattle.std.proofs.Common.{length, arith}
 use Rattle.std.proofs.lemmas.List.{length-map}
 use Rattle.record_model.specs.Seen.{event_seen, events_seen}
 use Rattle.record_log.proofs.ReadBack.{event_inside, never_outside}

@@ -6,3 +6,4 @@ pub mod ReadBack
 pub mod Heads
 pub mod Opened
 pub mod Ways
+pub mod Copies

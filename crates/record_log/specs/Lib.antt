@@ -6,3 +6,4 @@ pub mod Reading
 pub mod Opening
 pub mod Walking
 pub mod OldLogs
+pub mod Copying

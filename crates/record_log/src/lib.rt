@@ -16,12 +16,14 @@
 //! first gate to the closed one, meets the events of the journal, each once and in order.
 //!
 //! A log that stands on a disk is opened by a sync and a walk over its batches, each of which is checked; a disk that shows no
-//! sound log is refused, with the cause. A log in the old form, without digests, is opened as an [`OldLog`], which is only read.
+//! sound log is refused, with the cause. A log in the old form, without digests, is opened as an [`OldLog`], which is only read;
+//! [`copy_log`] appends its batches to a new log, one by one, which then stands for the same journal.
 //!
 //! Stands on `at_edge` for disks, `log_format` for bytes, `log_check` for the walk, and the words of `log_rules` and
 //! `crash_rules`.
 #![tactic(auto)]
 
+mod copying;
 mod create;
 mod halves;
 mod headers;
@@ -33,6 +35,7 @@ mod ready;
 mod record_log;
 mod spots;
 
+pub use copying::{CopyFail, copy_log};
 pub use create::CreateFail;
 pub use laws::{walk_begins, walk_ends, walk_goes_on, walk_is_at_a_gate};
 pub use old_log::{OldFail, OldLog};
@@ -42,5 +45,7 @@ pub use ready::Ready;
 pub use record_log::RecordLog;
 pub use spots::Spot;
 
+#[cfg(test)]
+mod copy_tests;
 #[cfg(test)]
 mod tests;

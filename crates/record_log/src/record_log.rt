@@ -166,6 +166,22 @@ impl<D: Disk> RecordLog<D> {
         ensures body { IfOk result (λ ready. ready.body ≡ body_bytes (events_seen batch.now)) }
         ensures batch { IfOk result (λ _. IsBatch (events_seen batch.now)) }
     {
+        self.ready_short(alloc, batch)
+    }
+
+    /// The same of a batch whose body has fewer than 2^32 bytes.
+    ///
+    /// # Errors
+    ///
+    /// [`NoMemory`].
+    pub(crate) fn ready_short(&self, alloc: Global, batch: &[Event]) -> Result<Ready, NoMemory>
+        requires some { 1 ≤ length batch.now }
+        requires few { length batch.now ≤ 100 }
+        requires short { length (body_bytes (events_seen batch.now)) < 2 ^ 32 }
+        ensures placed { IfOk result (λ ready. ready.offset ≡ self.now.gate) }
+        ensures body { IfOk result (λ ready. ready.body ≡ body_bytes (events_seen batch.now)) }
+        ensures batch { IfOk result (λ _. IsBatch (events_seen batch.now)) }
+    {
         let body = write_batch(alloc, batch)?;
         Ready::new(alloc, self.gate, body.as_slice())
     }

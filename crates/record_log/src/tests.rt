@@ -26,7 +26,7 @@ const LS_DIGEST: [u8; 16] = [
 ];
 
 /// The batch in which `ls` is begun in `/`, session `s1`, on `h:u`.
-fn ls_begins(alloc: Global) -> Result<Vec<Event>, NoMemory>
+pub(crate) fn ls_begins(alloc: Global) -> Result<Vec<Event>, NoMemory>
     ensures one { IfOk result (λ batch. length batch.items ≡ 1) }
     ensures fit { IfOk result (λ batch. All EventFits (events_seen batch.items)) }
 {
@@ -46,7 +46,7 @@ fn ls_begins(alloc: Global) -> Result<Vec<Event>, NoMemory>
 }
 
 /// The batch in which it ended.
-fn ls_ends(alloc: Global) -> Result<Vec<Event>, NoMemory>
+pub(crate) fn ls_ends(alloc: Global) -> Result<Vec<Event>, NoMemory>
     ensures one { IfOk result (λ batch. length batch.items ≡ 1) }
     ensures fit { IfOk result (λ batch. All EventFits (events_seen batch.items)) }
 {

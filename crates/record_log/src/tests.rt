@@ -324,8 +324,8 @@ fn a_log_is_opened_with_its_batches(rt: HostRuntime) -> Result<(), Fail> {
     Ok(())
 }
 
-/// How many events the first batch has of a log that is opened after a crash, which left this image of an append whose call of
-/// that number failed.
+/// How many events the second batch has of a log that is opened after a crash, which left this image of the append of that
+/// batch, whose call of that number failed.
 fn left_by_crash<R: Abort>(
     rt: &R,
     alloc: Global,
@@ -334,12 +334,16 @@ fn left_by_crash<R: Abort>(
 ) -> Result<Option<usize>, Fail> {
     let mut log = new_log(rt, alloc, vec![in alloc; number; 1]?)?;
     let begins = log.ready(alloc, &ls_begins(alloc)?)?;
-    if log.append(begins).is_ok() {
+    if log.append(begins).is_err() {
+        return Ok(None);
+    }
+    let ends = log.ready(alloc, &ls_ends(alloc)?)?;
+    if log.append(ends).is_ok() {
         return Ok(None);
     }
     let image = log.into_disk().crash(alloc, pick)?.silent();
     let mut log = opened(rt, alloc, image)?;
-    match batch_there(alloc, &mut log, 32) {
+    match batch_there(alloc, &mut log, 106) {
         Some((count, _)) => Ok(Some(count)),
         None => Ok(None),
     }
@@ -349,15 +353,15 @@ fn left_by_crash<R: Abort>(
 fn a_crash_leaves_a_batch_whole_or_not_at_all(rt: HostRuntime) -> Result<(), Fail> {
     let alloc = rt.alloc();
     // The write of the batch, its sync, and the write of the gate.
-    for number in 4..7 {
+    for number in 8..11 {
         for pick in 0..3 {
             assert!(rt; left_by_crash(&rt, alloc, number, pick)? == Some(0));
         }
     }
     // The sync of the gate: it is closed in the first image, open in the second, and torn open in the third.
-    assert!(rt; left_by_crash(&rt, alloc, 7, 0)? == Some(0));
-    assert!(rt; left_by_crash(&rt, alloc, 7, 1)? == Some(1));
-    assert!(rt; left_by_crash(&rt, alloc, 7, 2)? == Some(1));
+    assert!(rt; left_by_crash(&rt, alloc, 11, 0)? == Some(0));
+    assert!(rt; left_by_crash(&rt, alloc, 11, 1)? == Some(1));
+    assert!(rt; left_by_crash(&rt, alloc, 11, 2)? == Some(1));
     Ok(())
 }
 

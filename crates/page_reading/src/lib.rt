@@ -14,3 +14,6 @@
 mod reading;
 
 pub use reading::read_page;
+
+#[cfg(test)]
+mod tests;

@@ -18,3 +18,6 @@ mod pages;
 
 pub use limits::{PassedLimit, limit_passed};
 pub use pages::{PageFail, PageRefusal, check_page};
+
+#[cfg(test)]
+mod tests;

@@ -1,6 +1,6 @@
 -- Of which entries a table is, and what it has room for.
-use Rattle.std.specs.Prelude.{◌≡◌, ℕ, ◌+◌, ◌≤◌, List, [], ◌∷◌, ◌++◌, length, map, All, ⊤}
-use Rattle.record_rules.specs.Records.{Caller, Entry, Event, Started, Local, Taken}
+use Rattle.std.specs.Prelude.{◌≡◌, ℕ, ◌+◌, ◌≤◌, List, ◌∷◌, length, map, All, ⊤}
+use Rattle.record_rules.specs.Records.{Caller, Event, Started, Local, Taken}
 use Rattle.record_rules.specs.Journal.{MayFollow}
 use Rattle.record_model.specs.Seen.{caller_seen}
 use Rattle.record_log.specs.declared.spots.Spot.{Spot}

@@ -1,5 +1,6 @@
 ghost use Rattle.std.specs.Prelude.{◌≡◌, ◌++◌, ◌∷◌, List, [], IfOk, OnOk};
-ghost use Rattle.record_rules.specs.Examples.{kv_record};
+ghost use Rattle.record_rules.specs.Records as said;
+ghost use Rattle.record_rules.specs.Examples.{kv_record, started_ls};
 ghost use Rattle.record_model.specs.Seen.{caller_seen, event_seen, record_seen};
 ghost use Rattle.chain_index.specs.Meaning.{Filed};
 ghost use Rattle.store_tables.specs.Entries.{IsTableOf, MayFile, filed_by};
@@ -7,7 +8,7 @@ ghost use Rattle.store_tables.specs.Entries.{IsTableOf, MayFile, filed_by};
 use super::*;
 use plain_types::Text;
 use record_log::Spot;
-use record_model::{Caller, Event, Record};
+use record_model::{Caller, Event, Record, Started};
 use std::alloc::Global;
 use std::test::Fail;
 
@@ -36,6 +37,19 @@ fn kv(alloc: Global, idx: u64, id: u128) -> Result<Record, Fail>
         sealed: Text::copied(alloc, b"")?,
         wrapped: Text::copied(alloc, b"")?,
     })
+}
+
+fn ls(alloc: Global) -> Result<Event, Fail>
+    ensures { IfOk result (λ e. event_seen e ≡ said.Started (started_ls 7)) }
+{
+    Ok(Event::Started(Started {
+        id: 7,
+        timestamp: 0,
+        command: Text::copied(alloc, b"ls")?,
+        cwd: Text::copied(alloc, b"/")?,
+        session: Text::copied(alloc, b"s1")?,
+        hostname: Text::copied(alloc, b"h:u")?,
+    }))
 }
 
 /// Keeps the event at this place of the batch.
@@ -70,5 +84,20 @@ fn entries_are_counted_and_found(rt: HostRuntime) -> Result<(), Fail> {
     assert!(rt; table.index().count(5, 2, b"kv") == 2);
     assert!(rt; table.index().count(0, 2, b"kv") == 0);
     assert!(rt; table.index().id_at(5, 2, b"kv", 1) == Some(1001));
+    Ok(())
+}
+
+#[test]
+fn a_batch_is_added_without_memory(rt: HostRuntime) -> Result<(), Fail> {
+    let alloc = rt.alloc();
+    let mut tables = Tables::new(alloc);
+    let mut events = Vec::new(alloc);
+    events.push(ls(alloc)?)?;
+    let batch = tables.ready(alloc, &None, CALLER, events)?;
+    assert!(rt; tables.entries.len() == 0);
+    assert!(rt; !tables.kept.commands.is_known(7));
+    tables.add(batch, SPOT);
+    assert!(rt; tables.entries.len() == 1);
+    assert!(rt; tables.kept.commands.is_known(7));
     Ok(())
 }

@@ -22,3 +22,6 @@ pub use adding::add_event;
 pub use nothing::nothing_kept;
 pub use reserving::{reserve_event, reserve_payload};
 pub use rooms::EventRoom;
+
+#[cfg(test)]
+mod tests;

@@ -73,8 +73,8 @@ fn reserve_record(
 }
 
 /// Makes room for an event: a place for a command that starts, and for a record of owner 0 what it shows under the key.
-/// A record that doesn't open under the key, or holds no payload, shows nothing, and so does every record where there is
-/// no key. No later call undoes that.
+/// A record that doesn't open under the key, or holds no payload, shows nothing, and so does every record where there
+/// is no key. No later call undoes that.
 ///
 /// # Errors
 ///

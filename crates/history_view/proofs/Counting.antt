@@ -27,7 +27,7 @@ at_part all the_hostname = all.hostname
 pub numbers_named : (texts : List (List ℕ)) (c : Creation) → HasTexts texts c → AreNumbers texts (numbers_of c)
 numbers_named texts c has = record { command = has.command; cwd = has.cwd; session = has.session; hostname = has.hostname }
 
-some_within : {X : Type 0} → (xs : List X) (n : ℕ) → IsSome (slice_get xs n) → n < length xs
+pub some_within : {X : Type 0} → (xs : List X) (n : ℕ) → IsSome (slice_get xs n) → n < length xs
 some_within {X} xs n has = by (slice_get xs n) refl has
   where
     by : (o : Option X) → slice_get xs n ≡ o → IsSome o → n < length xs

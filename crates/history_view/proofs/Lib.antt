@@ -8,3 +8,5 @@ pub mod Ordering
 pub mod Listing
 pub mod History
 pub mod Folding
+pub mod Spanning
+pub mod Ranging

@@ -5,6 +5,7 @@ pub mod Rows
 pub mod Places
 pub mod ViewState
 pub mod Rooms
+pub mod Spans
 pub mod Walk
 pub mod Shown
 pub mod Laws

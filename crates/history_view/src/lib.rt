@@ -11,6 +11,9 @@
 //! The texts stand also folded to lower case, those of 64 numbers end to end in a block, so that one look at a block tells a
 //! search what stands in none of them.
 //!
+//! Beside each text stands the span of the times at which commands with it began, which only grows, so that a search that
+//! knows which texts match walks between two times alone.
+//!
 //! The commands of a host, a session or a working directory are the walk over the order that passes by numbers; how
 //! many there are is counted beside each text. A text that was numbered and a place that was made stay, also where
 //! nothing of them is shown any more.
@@ -26,6 +29,7 @@ mod places;
 mod room;
 mod rows;
 mod shown;
+mod spans;
 mod tallies;
 mod view;
 mod walk;
@@ -36,6 +40,7 @@ pub use laws::a_view_shows_the_history;
 pub use room::Room;
 pub use rows::{Creation, Held, TextNumbers};
 pub use shown::ShownCommand;
+pub use spans::Span;
 pub use view::HistoryView;
 pub use walk::{Newest, Walked};
 

@@ -15,7 +15,13 @@ ghost use Rattle.definitions.specs.Search.{is_shown_before};
 ghost use Rattle.definitions.specs.Journal.{HaveDistinctIds};
 ghost use Rattle.history_view.specs.Shown.{command_seen};
 ghost use Rattle.std.specs.Option.{option_map};
-ghost use Rattle.std.specs.Prelude.{length, IsSome, Some, slice_get};
+ghost use Rattle.std.specs.Prelude.{length, IsSome, Some, slice_get, ltb, ◌≤◌, ◌+◌};
+ghost use Rattle.std.specs.Range.Bound.{IsForward};
+ghost use Rattle.std.specs.declared.ops.Bound.TheVariants.{Included};
+ghost use Rattle.std.specs.BTreeMap.Range.{IsLeBy, IsLtBy, is_past_end};
+ghost use Rattle.history_view.specs.declared.walk.Walked.{Walked};
+ghost use Rattle.history_view.specs.Places.{OrderKey, key_cmp};
+ghost use Rattle.history_view.specs.Spans.{span_of, IsWithin, began_within};
 ghost use Rattle.history_view.specs.Folded.{HoldsBlock};
 ghost use Rattle.std.specs.List.{filter, filter_map};
 ghost use Rattle.view_rules.specs.Answers.{in_scope};
@@ -28,6 +34,7 @@ use crate::places::{Ids, Order, change, held, make_id, make_key};
 use crate::room::Room;
 use crate::rows::Creation;
 use crate::shown::ShownCommand;
+use crate::spans::{Span, Spans, make, spanned, widen};
 use crate::walk::Newest;
 use plain_types::{NoMemory, Text};
 use record_model::{Filter, History};
@@ -35,6 +42,10 @@ use std::alloc::Global;
 use std::cmp::Reverse;
 use std::collections::{BTreeMap, HashMap};
 use std::marker::Model;
+use std::ops::Bound;
+
+/// A command brings so many texts at most: itself, its working directory, session, host name and author.
+const TEXTS_OF_ONE: usize = 5;
 
 /// The commands that ended.
 #[derive(Drop)]
@@ -43,16 +54,18 @@ pub struct HistoryView {
     ids: Ids,
     order: Order,
     shown: u64,
+    spans: Spans,
 }
 
 impl Model for HistoryView {
-    ghost use Rattle.history_view.specs.ViewState.{ViewState, IsSound};
+    ghost use Rattle.history_view.specs.ViewState.{ViewState};
+    ghost use Rattle.history_view.specs.Spans.{IsKept};
 
     ghost Value = { ViewState };
 
     ghost view = { λ v. record { texts = v.texts.texts; counts = v.texts.counts; shown = v.shown; ids = v.ids.entries; order = v.order.entries } };
 
-    ghost invariant = { λ v. IsSound (record { texts = v.texts.texts; counts = v.texts.counts; shown = v.shown; ids = v.ids.entries; order = v.order.entries }) };
+    ghost invariant = { λ v. IsKept (record { texts = v.texts.texts; counts = v.texts.counts; shown = v.shown; ids = v.ids.entries; order = v.order.entries }) v.spans.items };
 }
 
 impl HistoryView {
@@ -65,6 +78,7 @@ impl HistoryView {
             ids: HashMap::new(alloc),
             order: BTreeMap::new(alloc),
             shown: 0,
+            spans: Vec::new(alloc),
         }
     }
 
@@ -78,7 +92,7 @@ impl HistoryView {
         ensures same { (id : ℕ) → standing_in self.new id ≡ standing_in self.old id }
         ensures rooms { KeepsRooms self.old self.new }
     {
-        let creation = number_texts(&mut self.texts, alloc, h)?;
+        let creation = number_texts(&mut self.texts, &mut self.spans, alloc, h)?;
         make_id(&mut self.ids, h.id)?;
         make_key(&mut self.order, (Reverse(h.timestamp), h.id))?;
         Ok(Room::Creates(h.id, creation))
@@ -189,8 +203,26 @@ impl HistoryView {
         ensures shown { AreShown self.now (newest_of self.now) }
     {
         Newest {
-            inner: self.order.iter(),
+            inner: self.order.range(..),
         }
+    }
+
+    /// The commands that are shown and began within the span, as `newest` shows them.
+    pub fn between(&self, span: &Span) -> Newest<'_>
+        requires { span.now.earliest ≤ span.now.latest }
+        ensures { walked_in result.inner ≡ filter (began_within span.now) (walked_in self.now.order) }
+    {
+        let start = Bound::Included((Reverse(span.latest), 0));
+        Newest {
+            inner: self.order.range((start, behind(span.earliest))),
+        }
+    }
+
+    /// A span in which each command that is shown with the text of this number began. It takes no memory.
+    pub fn span(&self, number: usize) -> Span
+        ensures { (w : Walked) → IsRow self.now w → w.numbers.command ≡ number → IsWithin result w.timestamp }
+    {
+        spanned(&self.spans, number)
     }
 
     /// Places what the room holds, as the change at this host and idx. It takes no memory.
@@ -201,6 +233,7 @@ impl HistoryView {
     {
         match room {
             Room::Creates(id, creation) => {
+                widen(&mut self.spans, creation.command, creation.timestamp);
                 let placed = creation.placed(host, idx);
                 let new = held(&self.ids, id).after_creation(placed);
                 change(
@@ -227,13 +260,22 @@ impl HistoryView {
     }
 }
 
-/// The command in numbers, but for where it stands.
-fn number_texts(texts: &mut Dictionary, alloc: Global, h: &History) -> Result<Creation, NoMemory>
+/// The command in numbers, but for where it stands; each of its texts gets a span.
+fn number_texts(
+    texts: &mut Dictionary,
+    spans: &mut Spans,
+    alloc: Global,
+    h: &History,
+) -> Result<Creation, NoMemory>
+    requires { length texts.old.texts ≤ length spans.old.items }
+    ensures reach { length texts.new.texts ≤ length spans.new.items }
+    ensures spans { (n : ℕ) → span_of spans.new.items n ≡ span_of spans.old.items n }
     ensures keeps { KeepsTexts texts.old.texts texts.new.texts }
     ensures counts { SameCounts texts.old.counts texts.new.counts }
     ensures has { IfOk result (λ c. HasTexts texts.new.texts c) }
     ensures means { IfOk result (λ c. command_of texts.new.texts h.now.id c ≡ history_seen h.now) }
 {
+    make(spans, texts.len() + TEXTS_OF_ONE)?;
     let command = texts.number(alloc, h.command.as_bytes())?;
     let cwd = texts.number(alloc, h.cwd.as_bytes())?;
     let session = texts.number(alloc, h.session.as_bytes())?;
@@ -252,6 +294,18 @@ fn number_texts(texts: &mut Dictionary, alloc: Global, h: &History) -> Result<Cr
         hostname,
         author,
     })
+}
+
+/// The end of the keys of times from this one on.
+fn behind(earliest: u64) -> Bound<(Reverse<u64>, u128)>
+    ensures past { (key : OrderKey) → is_past_end key_cmp result key ≡ ltb key.0.0 earliest }
+    ensures forward { (latest : ℕ) → earliest ≤ latest → IsForward (IsLeBy key_cmp) (IsLtBy key_cmp) (Included (record { 0 = latest }, 0)) result }
+{
+    if earliest == 0 {
+        Bound::Unbounded
+    } else {
+        Bound::Excluded((Reverse(earliest - 1), 0))
+    }
 }
 
 /// The command with its texts.
@@ -283,6 +337,7 @@ fn number_author(
     ensures counts { SameCounts texts.old.counts texts.new.counts }
     ensures has { IfOk result (λ n. HasAuthor texts.new.texts n) }
     ensures means { IfOk result (λ n. author_of texts.new.texts n ≡ author.now) }
+    ensures few { length texts.new.texts ≤ length texts.old.texts + 1 }
 {
     match author {
         Some(author) => Ok(Some(texts.number(alloc, author.as_bytes())?)),

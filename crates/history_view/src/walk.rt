@@ -15,10 +15,10 @@ pub struct Walked {
     pub numbers: TextNumbers,
 }
 
-/// The commands that are shown, the newest first.
+/// The commands that are shown, or those that began within a span, the newest first.
 #[derive(Drop)]
 pub struct Newest<'a> {
-    pub(crate) inner: btree_map::Iter<'a, (Reverse<u64>, u128), Option<TextNumbers>>,
+    pub(crate) inner: btree_map::Range<'a, (Reverse<u64>, u128), Option<TextNumbers>>,
 }
 
 impl<'a> Iterator for Newest<'a> {

@@ -1,7 +1,6 @@
 -- A walk over what is shown finds what a search is to answer.
 use Rattle.std.proofs.Common.{◌≡◌, ℕ, zero, suc, ◌+◌, ◌-◌, ◌≤◌, ◌<◌, List, [], ◌∷◌, ◌++◌, length, drop, Option, Some, None, Bool, true, false, cond, get_or, inl, refl, sym, ap, subst, ◌∙◌, arith}
-use Rattle.std.specs.List.{filter, filter_map, cons_option, list_any, All, AllByRecursion}
-use Rattle.std.specs.Option.{unwrap_or}
+use Rattle.std.specs.List.{filter, filter_map, cons_option, All, AllByRecursion}
 use Rattle.std.proofs.lemmas.Option.{slice_get_within, get_or_from_slice_get}
 use Rattle.std.proofs.Math.Seq.{drop-nil}
 use Rattle.std.proofs.lemmas.List.{append_assoc, length-append, length-map}
@@ -12,12 +11,15 @@ use Rattle.history_view.specs.declared.shown.ShownCommand.{ShownCommand}
 use Rattle.history_view.specs.declared.walk.Walked.{Walked}
 use Rattle.history_view.specs.ViewState.{ViewState}
 use Rattle.history_view.specs.Shown.{command_seen}
+use Rattle.history_view.specs.declared.spans.Span.{Span}
+use Rattle.history_view.specs.Spans.{IsWithin, began_within, joined}
 use Rattle.history_view.specs.Walk.{IsRow, shown_command, walked_in, newest_of}
-use Rattle.std.specs.Prelude.{IsSome, slice_get, bytes_eq, not, ◌&&◌, ◌||◌}
+use Rattle.std.specs.Prelude.{IsSome, slice_get, bytes_eq, not, leb, ltb, ◌&&◌, ◌||◌}
+use Rattle.std.proofs.lemmas.Bool.{true≢false, ltb-true, ltb-false, le-leb}
 use Rattle.search_query.proofs.Memos.{row_within, no_hit}
 use Rattle.std.proofs.lemmas.Slice.Eq.{bytes_eq-Decides}
 use Rattle.view_rules.specs.Answers.{in_scope, is_found, firsts}
-use Rattle.search_query.specs.Answers.{Seens, none_seen, more_seen, scope_seen, query_seen, test_of, passing, is_new, IsAnswerOf, Remembers, IsKnown, IsTold, IsMemo, seen_of, weight_of, kept, uniques, hit_at, answer_from, IsOnWay}
+use Rattle.search_query.specs.Answers.{Seens, none_seen, more_seen, scope_seen, query_seen, test_of, passing, is_new, IsAnswerOf, Remembers, IsKnown, IsTold, IsMemo, seen_of, weight_of, kept, uniques, hit_at, answer_from, MakesAnswer, SpansHits, IsOnWay}
 
 -- ---- lists
 
@@ -257,12 +259,12 @@ blank_remembers texts test memo all n o command at named =
     let none : get_or memo n None ≡ None = all n None inside in
     subst (λ (p : Option Bool). IsMemo command test none_seen p) (sym none ∙ there) refl
 
-pub begins_walk : (query : Query) (s : ViewState) (all left : List Walked) (memo : List (Option Bool)) (hits : List ShownCommand) (first : ℕ) → left ≡ all → AllByRecursion (IsRow s) all → Remembers s.texts (test_of query) none_seen memo → length memo ≡ length s.texts
-    → hits ≡ [] → IsOnWay query s all left memo hits 0 query.offset first first
-begins_walk query s all left memo hits first same rows remembers long none =
-    let plain : IsOnWay query s all all memo [] 0 query.offset first first = record { seen = none_seen; remembers = remembers; long = long; rows = rows; weighed = refl; fits = (omega arith, inl (omega arith)); whole = refl; counted = omega arith } in
-    let empty : IsOnWay query s all all memo hits 0 query.offset first first = subst (λ (hs : List ShownCommand). IsOnWay query s all all memo hs 0 query.offset first first) (sym none) plain in
-    subst (λ (ws : List Walked). IsOnWay query s all ws memo hits 0 query.offset first first) (sym same) empty
+pub begins_walk : (query : Query) (s : ViewState) (left : List Walked) (memo : List (Option Bool)) (hits : List ShownCommand) (first : ℕ) → MakesAnswer query s left → Remembers s.texts (test_of query) none_seen memo → length memo ≡ length s.texts → hits ≡ []
+    → IsOnWay query s (walked_in s.order) left memo hits 0 query.offset first first
+begins_walk query s left memo hits first makes remembers long none =
+    let few = makes.few in
+    let plain : IsOnWay query s (walked_in s.order) left memo [] 0 query.offset first first = record { seen = none_seen; remembers = remembers; long = long; rows = makes.rows; weighed = refl; fits = (omega arith, inl (omega arith)); whole = makes.whole; counted = omega arith } in
+    subst (λ (hs : List ShownCommand). IsOnWay query s (walked_in s.order) left memo hs 0 query.offset first first) (sym none) plain
 
 -- the tests so far, and that of what was walked to, are no more than what passes the filter
 pub tested : (query : Query) (s : ViewState) (w : Walked) (left : List Walked) (memo : List (Option Bool)) (hits : List ShownCommand) (bytes skip first steps : ℕ) → IsOnWay query s (walked_in s.order) (w ∷ left) memo hits bytes skip first steps
@@ -295,29 +297,105 @@ told_known texts test memo long told n o at =
     inside (t ∷ ts) zero below = (t, refl)
     inside (t ∷ ts) (suc k) below = inside ts k (omega (arith, below))
 
--- ---- nothing to be found
+-- ---- what is to be walked to
 
-module _ (query : Query) (s : ViewState) (memo : List (Option Bool)) (remembers : Remembers s.texts (test_of query) none_seen memo) (long : length memo ≡ length s.texts) (misses : list_any (λ (o : Option Bool). unwrap_or o true) memo ≡ false) where
-  miss_at : (os : List (Option Bool)) (n : ℕ) → list_any (λ (o : Option Bool). unwrap_or o true) os ≡ false → n < length os → slice_get os n ≡ Some (Some false)
-  miss_at [] n none below = absurd (omega (arith, below))
-  miss_at (None ∷ os) n none below = absurd cc
-  miss_at (Some true ∷ os) n none below = absurd cc
-  miss_at (Some false ∷ os) zero none below = refl
-  miss_at (Some false ∷ os) (suc n) none below = miss_at os n none (omega (arith, below))
+pub makes_all : (query : Query) (s : ViewState) (ws : List Walked) → ws ≡ walked_in s.order → AllByRecursion (IsRow s) (walked_in s.order) → MakesAnswer query s ws
+makes_all query s ws is rows =
+    let all : MakesAnswer query s (walked_in s.order) = record { rows = rows; whole = refl; few = omega arith } in
+    subst (λ (vs : List Walked). MakesAnswer query s vs) (sym is) all
 
-  none_hit : (w : Walked) → IsRow s w → hit_at query none_seen s w ≡ None
-  none_hit w row =
-      let within = row_within s w row in
-      sym (no_hit query s w none_seen memo row remembers (miss_at memo w.numbers.command misses (omega (arith, within, long))))
+fewer : (p : Walked → Bool) (f : Walked → Option HistoryRecord) (ws : List Walked) → length (filter_map f (filter p ws)) ≤ length (filter_map f ws)
+fewer p f [] = omega arith
+fewer p f (w ∷ ws) = by (p w) (fewer p f ws)
+  where
+    by : (t : Bool) → length (filter_map f (filter p ws)) ≤ length (filter_map f ws) → length (filter_map f (cond t (w ∷ filter p ws) (filter p ws))) ≤ length (cons_option (f w) (filter_map f ws))
+    by true few = let part = one_more (f w) (filter_map f (filter p ws)) in let all = one_more (f w) (filter_map f ws) in omega arith
+    by false few = let all = one_more (f w) (filter_map f ws) in omega arith
 
-  none_hits : (ws : List Walked) → AllByRecursion (IsRow s) ws → filter_map (hit_at query none_seen s) ws ≡ []
-  none_hits [] rows = refl
-  none_hits (w ∷ ws) rows = ap (λ (o : Option HistoryRecord). cons_option o (filter_map (hit_at query none_seen s) ws)) (none_hit w rows.0) ∙ none_hits ws rows.1
+not_within : (span : Span) (w : Walked) → began_within span w ≡ false → IsWithin span w.timestamp → ⊥
+not_within span w out within =
+    let both : began_within span w ≡ true = ap (λ (b : Bool). b && leb w.timestamp span.latest) (le-leb span.earliest w.timestamp within.0) ∙ le-leb w.timestamp span.latest within.1 in
+    true≢false (sym both ∙ out)
 
-  pub nothing_found : (hits : List ShownCommand) → hits ≡ [] → AllByRecursion (IsRow s) (walked_in s.order) → IsAnswerOf query (newest_of s) (seen_of hits)
-  nothing_found hits none rows = subst (λ (hs : List ShownCommand). IsAnswerOf query (newest_of s) (seen_of hs)) (sym none) record {
-    rest = [];
-    begins = sym (whole_of query s) ∙ ap (λ (hs : List HistoryRecord). drop query.offset (uniques query.unique hs)) (none_hits (walked_in s.order) rows) ∙ ap (drop query.offset) (none_left query s query.unique) ∙ drop-nil query.offset;
-    fits = (omega arith, inl (omega arith));
-    most = λ next others e. absurd cc;
-  }
+module _ (query : Query) (s : ViewState) (memo : List (Option Bool)) (span : Span) (remembers : Remembers s.texts (test_of query) none_seen memo) (spans : SpansHits s memo span) where
+  outside : (w : Walked) → IsRow s w → (IsWithin span w.timestamp → ⊥) → hit_at query none_seen s w ≡ None
+  outside w row out = by (slice_get memo w.numbers.command) refl
+    where
+      no_miss : (o : Option (Option Bool)) → slice_get memo w.numbers.command ≡ o → (o ≡ Some (Some false) → ⊥) → hit_at query none_seen s w ≡ None
+      no_miss o e other = absurd (out (spans w row (λ f. other (sym e ∙ f))))
+
+      by : (o : Option (Option Bool)) → slice_get memo w.numbers.command ≡ o → hit_at query none_seen s w ≡ None
+      by None e = no_miss None e (λ f. cc)
+      by (Some None) e = no_miss (Some None) e (λ f. cc)
+      by (Some (Some true)) e = no_miss (Some (Some true)) e (λ f. cc)
+      by (Some (Some false)) e = sym (no_hit query s w none_seen memo row remembers e)
+
+  hits_between : (ws : List Walked) → AllByRecursion (IsRow s) ws → filter_map (hit_at query none_seen s) (filter (began_within span) ws) ≡ filter_map (hit_at query none_seen s) ws
+  hits_between [] rows = refl
+  hits_between (w ∷ ws) rows = by (began_within span w) refl (hits_between ws rows.1)
+    where
+      by : (t : Bool) → began_within span w ≡ t → filter_map (hit_at query none_seen s) (filter (began_within span) ws) ≡ filter_map (hit_at query none_seen s) ws
+          → filter_map (hit_at query none_seen s) (cond t (w ∷ filter (began_within span) ws) (filter (began_within span) ws)) ≡ cons_option (hit_at query none_seen s w) (filter_map (hit_at query none_seen s) ws)
+      by true e rest = ap (cons_option (hit_at query none_seen s w)) rest
+      by false e rest = rest ∙ ap (λ (o : Option HistoryRecord). cons_option o (filter_map (hit_at query none_seen s) ws)) (sym (outside w rows.0 (not_within span w e)))
+
+  rows_between : (ws : List Walked) → AllByRecursion (IsRow s) ws → AllByRecursion (IsRow s) (filter (began_within span) ws)
+  rows_between [] rows = tt
+  rows_between (w ∷ ws) rows = by (began_within span w) (rows_between ws rows.1)
+    where
+      by : (t : Bool) → AllByRecursion (IsRow s) (filter (began_within span) ws) → AllByRecursion (IsRow s) (cond t (w ∷ filter (began_within span) ws) (filter (began_within span) ws))
+      by true rest = (rows.0, rest)
+      by false rest = rest
+
+  -- what began within the span of all hits
+  pub makes_between : (ws : List Walked) → ws ≡ filter (began_within span) (walked_in s.order) → AllByRecursion (IsRow s) (walked_in s.order) → MakesAnswer query s ws
+  makes_between ws is rows =
+      let part : MakesAnswer query s (filter (began_within span) (walked_in s.order)) = record {
+        rows = rows_between (walked_in s.order) rows;
+        whole = ap (λ (hs : List HistoryRecord). drop query.offset (uniques query.unique hs)) (hits_between (walked_in s.order) rows);
+        few = fewer (began_within span) (λ (w : Walked). kept (in_scope (scope_seen query.filter)) (shown_command s w.id)) (walked_in s.order);
+      } in
+      subst (λ (vs : List Walked). MakesAnswer query s vs) (sym is) part
+
+  -- nothing, where the span has no times
+  module _ (empty : span.latest < span.earliest) where
+    never : (w : Walked) → IsWithin span w.timestamp → ⊥
+    never w within = let from = within.0 in let to = within.1 in omega arith
+
+    none_hits : (ws : List Walked) → AllByRecursion (IsRow s) ws → filter_map (hit_at query none_seen s) ws ≡ []
+    none_hits [] rows = refl
+    none_hits (w ∷ ws) rows = ap (λ (o : Option HistoryRecord). cons_option o (filter_map (hit_at query none_seen s) ws)) (outside w rows.0 (never w)) ∙ none_hits ws rows.1
+
+    pub nothing_found : (hits : List ShownCommand) → hits ≡ [] → AllByRecursion (IsRow s) (walked_in s.order) → IsAnswerOf query (newest_of s) (seen_of hits)
+    nothing_found hits none rows = subst (λ (hs : List ShownCommand). IsAnswerOf query (newest_of s) (seen_of hs)) (sym none) record {
+      rest = [];
+      begins = sym (whole_of query s) ∙ ap (λ (hs : List HistoryRecord). drop query.offset (uniques query.unique hs)) (none_hits (walked_in s.order) rows) ∙ ap (drop query.offset) (none_left query s query.unique) ∙ drop-nil query.offset;
+      fits = (omega arith, inl (omega arith));
+      most = λ next others e. absurd cc;
+    }
+
+-- ---- the span of all hits
+
+pub joined_this : (a b : Span) (t : ℕ) → IsWithin a t → IsWithin (joined a b) t
+joined_this a b t within = let from = within.0 in let to = within.1 in (omega arith, omega arith)
+
+pub joined_other : (a b : Span) (t : ℕ) → IsWithin b t → IsWithin (joined a b) t
+joined_other a b t within = let from = within.0 in let to = within.1 in (omega arith, omega arith)
+
+-- so far it is one of the hits with texts below a number
+abbrev pub SpansBelow : ViewState → List (Option Bool) → ℕ → Span → Type 0
+SpansBelow s memo k span = (w : Walked) → IsRow s w → w.numbers.command < k → (slice_get memo w.numbers.command ≡ Some (Some false) → ⊥) → IsWithin span w.timestamp
+
+pub spans_more : (s : ViewState) (memo : List (Option Bool)) (k : ℕ) (span next : Span) → SpansBelow s memo k span → ((t : ℕ) → IsWithin span t → IsWithin next t)
+    → ((slice_get memo k ≡ Some (Some false) → ⊥) → (w : Walked) → IsRow s w → w.numbers.command ≡ k → IsWithin next w.timestamp) → SpansBelow s memo (k + 1) next
+spans_more s memo k span next below keeps has w row less hit = by (ltb w.numbers.command k) refl
+  where
+    by : (t : Bool) → ltb w.numbers.command k ≡ t → IsWithin next w.timestamp
+    by true e = keeps w.timestamp (below w row (ltb-true w.numbers.command k e) hit)
+    by false e =
+        let far = ltb-false w.numbers.command k e in
+        let same : w.numbers.command ≡ k = omega arith in
+        has (λ f. hit (ap (slice_get memo) same ∙ f)) w row same
+
+pub spans_all : (s : ViewState) (memo : List (Option Bool)) (k : ℕ) (span : Span) → length memo ≡ length s.texts → length memo ≤ k → SpansBelow s memo k span → SpansHits s memo span
+spans_all s memo k span long all below w row hit = let within = row_within s w row in below w row (omega arith) hit

@@ -7,7 +7,9 @@ use Rattle.history_view.specs.declared.walk.Walked.{Walked}
 use Rattle.history_view.specs.ViewState.{ViewState}
 use Rattle.history_view.specs.Shown.{command_seen}
 pub use Rattle.history_view.specs.Buckets.{scope_seen}
-use Rattle.history_view.specs.Walk.{shown_command, IsRow, AreShown}
+use Rattle.history_view.specs.Walk.{shown_command, walked_in, IsRow, AreShown}
+use Rattle.history_view.specs.declared.spans.Span.{Span}
+use Rattle.history_view.specs.Spans.{IsWithin}
 use Rattle.definitions.specs.Journal.{HistoryRecord, HaveDistinctIds}
 use Rattle.definitions.specs.Search.{matches_by, is_shown_before, hit_bytes, FitsPage, IsPage}
 use Rattle.view_rules.specs.Answers.{ScopedQuery, in_scope, is_found, firsts}
@@ -114,6 +116,16 @@ answer_from query seen s skip hits ws = seen_of hits ++ drop skip (uniques query
 -- how many of what is left pass the filter
 abbrev pub passing : Query → ViewState → List Walked → ℕ
 passing query s ws = length (filter_map (λ (w : Walked). kept (in_scope (scope_seen query.filter)) (shown_command s w.id)) ws)
+
+-- what is to be walked to, all that is shown or a part, makes the whole answer
+pub record MakesAnswer (query : Query) (s : ViewState) (ws : List Walked) : Type 0 where
+  pub rows : AllByRecursion (IsRow s) ws
+  pub whole : answer_from query none_seen s query.offset [] ws ≡ answer_from query none_seen s query.offset [] (walked_in s.order)
+  pub few : passing query s ws ≤ passing query s (walked_in s.order)
+
+-- what may be a hit, by what is remembered of texts, began within the span
+abbrev pub SpansHits : ViewState → List (Option Bool) → Span → Type 0
+SpansHits s memo span = (w : Walked) → IsRow s w → (slice_get memo w.numbers.command ≡ Some (Some false) → ⊥) → IsWithin span w.timestamp
 
 -- a walk on the way
 pub record IsOnWay (query : Query) (s : ViewState) (all left : List Walked) (memo : List (Option Bool)) (hits : List ShownCommand) (bytes skip first steps : ℕ) : Type 0 where

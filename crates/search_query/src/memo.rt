@@ -1,14 +1,16 @@
 //! What a search remembers of texts: each text is tested once.
 
 ghost use Rattle.std.specs.Prelude.{◌≡◌, ◌≢◌, ℕ, Bool, List, ◌+◌, ◌/◌, ◌%◌, true, false, ◌<◌, ◌≤◌, length, IfOk, slice_get, Some, ◌&&◌, not};
-ghost use Rattle.std.specs.List.{All, list_any};
-ghost use Rattle.std.specs.Option.{unwrap_or};
+ghost use Rattle.std.specs.List.{All};
 ghost use Rattle.definitions.specs.Search.{matches_by};
+ghost use Rattle.history_view.specs.declared.walk.Walked.{Walked};
+ghost use Rattle.history_view.specs.Spans.{IsWithin};
 ghost use Rattle.history_view.specs.Texts.{AreDistinct};
-ghost use Rattle.search_query.specs.Answers.{Seens, Remembers, IsKnown, IsTold, PassesBy, more_seen};
+ghost use Rattle.history_view.specs.Walk.{IsRow};
+ghost use Rattle.search_query.specs.Answers.{Seens, Remembers, IsKnown, IsTold, PassesBy, SpansHits, more_seen};
 
 use crate::matching::Matching;
-use history_view::HistoryView;
+use history_view::{HistoryView, Span};
 use plain_types::NoMemory;
 use record_model::Query;
 use std::alloc::Global;
@@ -25,11 +27,11 @@ pub fn blank(alloc: Global, count: usize) -> Result<Memo, NoMemory>
 }
 
 /// Whether it is remembered that the command of this number is no hit.
-pub fn is_miss(memo: &Memo, number: u32) -> bool
+pub fn is_miss(memo: &Memo, number: usize) -> bool
     requires { number < length memo.now.items }
     ensures { result ≡ true → slice_get memo.now.items number ≡ Some (Some false) }
 {
-    match memo[number as usize] {
+    match memo[number] {
         Some(known) => !known,
         None => false,
     }
@@ -147,9 +149,26 @@ fn is_match(
     }
 }
 
-/// Whether a text may match, by what is remembered.
-pub fn may_match(memo: &Memo) -> bool
-    ensures { result ≡ list_any (λ o. unwrap_or o true) memo.now.items }
+/// A span in which all commands began that may be hits, by what is remembered of their texts.
+pub fn hits_span(memo: &Memo, view: &HistoryView) -> Span
+    requires { length memo.now.items ≡ length view.now.texts }
+    ensures { SpansHits view.now memo.now.items result }
 {
-    memo.iter().any(|known| known.unwrap_or(true))
+    let mut span = Span::empty();
+    for number in 0..memo.len() {
+        span = span_with(&span, memo, view, number);
+    }
+    span
+}
+
+/// The span with that of this number's text, unless it is remembered that its command is no hit.
+fn span_with(span: &Span, memo: &Memo, view: &HistoryView, number: usize) -> Span
+    requires { number < length memo.now.items }
+    ensures keeps { (t : ℕ) → IsWithin span.now t → IsWithin result t }
+    ensures more { (slice_get memo.now.items number ≡ Some (Some false) → ⊥) → (w : Walked) → IsRow view.now w → w.numbers.command ≡ number → IsWithin result w.timestamp }
+{
+    if is_miss(memo, number) {
+        return *span;
+    }
+    span.joined(&view.span(number))
 }

@@ -1,7 +1,7 @@
 //! A search, from the newest command on.
 
 ghost use Rattle.std.specs.Prelude.{◌≡◌, ℕ, List, ◌+◌, ◌<◌, ◌≤◌, ◌^◌, [], ◌∷◌, true, length, None, Some, IfOk, IfSome, IsSome};
-ghost use Rattle.std.specs.List.{filter};
+ghost use Rattle.std.specs.List.{filter, AllByRecursion};
 ghost use Rattle.std.specs.Option.{option_map};
 ghost use Rattle.view_rules.specs.Changes.{Change, HaveDistinctPlaces};
 ghost use Rattle.view_rules.specs.Answers.{in_scope, SearchAnswer};
@@ -9,13 +9,13 @@ ghost use Rattle.history_view.specs.ViewState.{Means};
 ghost use Rattle.history_view.specs.Shown.{command_seen};
 ghost use Rattle.history_view.specs.Buckets.{Selects};
 ghost use Rattle.history_view.specs.Texts.{AreDistinct};
-ghost use Rattle.history_view.specs.Walk.{newest_of, IsRow};
-ghost use Rattle.search_query.specs.Answers.{Seens, scope_seen, query_seen, test_of, wanted_of, none_seen, IsAnswerOf, ListsShown, Remembers, IsKnown, IsOneFewer, passing, hit_at, seen_after, seen_of};
+ghost use Rattle.history_view.specs.Walk.{newest_of, walked_in, IsRow};
+ghost use Rattle.search_query.specs.Answers.{Seens, scope_seen, query_seen, test_of, wanted_of, none_seen, IsAnswerOf, ListsShown, MakesAnswer, Remembers, IsKnown, IsOneFewer, passing, hit_at, seen_after, seen_of};
 
 use crate::matching::Matching;
-use crate::memo::{Memo, blank, is_miss, matches, may_match, see, told};
+use crate::memo::{Memo, blank, hits_span, is_miss, matches, see, told};
 use crate::page::take;
-use history_view::{HistoryView, ScopeNumber, ShownCommand, Walked};
+use history_view::{HistoryView, Newest, ScopeNumber, ShownCommand, Walked};
 use plain_types::NoMemory;
 use record_model::Query;
 use std::alloc::Global;
@@ -61,15 +61,16 @@ fn found<'a>(
     requires limit { 1 ≤ query.now.limit }
     requires matching { matching.now ≡ wanted_of query.now }
     ensures page { IfOk result (λ hits. IsAnswerOf query.now (newest_of view.now) (seen_of hits.items)) }
-    ensures listed { IfOk result (λ _. ListsShown view.now (newest_of view.now)) }
+    ensures listed { ListsShown view.now (newest_of view.now) }
     ensures steps { steps.new ≤ steps.old + length (filter (in_scope (scope_seen query.now.filter)) (newest_of view.now)) }
 {
+    let rows = view.newest();
     let texts = view.text_count();
     if !is_worth_a_look(view.bucket_len(&query.filter), texts as u64) {
         let memo = blank(alloc, texts)?;
-        return whole(alloc, view, query, matching, memo, steps);
+        return whole(alloc, view, query, matching, memo, rows, steps);
     }
-    match begun(alloc, view, query, matching, steps)? {
+    match begun(alloc, view, query, matching, rows, steps)? {
         Some(hits) => Ok(hits),
         None => looked_through(alloc, view, query, matching, steps),
     }
@@ -82,7 +83,8 @@ fn is_worth_a_look(commands: u64, texts: u64) -> bool
     commands >= FIRST_COMMANDS && texts <= commands - FIRST_COMMANDS
 }
 
-/// The same, once it is known of all texts whether they match.
+/// The same, once it is known of all texts whether they match: by the commands that began no earlier and no later than any
+/// with a text that does.
 ///
 /// # Errors
 ///
@@ -96,12 +98,17 @@ fn looked_through<'a>(
 ) -> Result<Vec<ShownCommand<'a>>, NoMemory>
     requires limit { 1 ≤ query.now.limit }
     requires matching { matching.now ≡ wanted_of query.now }
+    requires rows { AllByRecursion (IsRow view.now) (walked_in view.now.order) }
     ensures page { IfOk result (λ hits. IsAnswerOf query.now (newest_of view.now) (seen_of hits.items)) }
-    ensures listed { IfOk result (λ _. ListsShown view.now (newest_of view.now)) }
     ensures steps { steps.new ≤ steps.old + length view.now.texts }
 {
     let memo = told(alloc, matching, view, steps)?;
-    whole(alloc, view, query, matching, memo, steps)
+    let span = hits_span(&memo, view);
+    if span.is_empty() {
+        return Ok(Vec::new(alloc));
+    }
+    let rows = view.between(&span);
+    whole(alloc, view, query, matching, memo, rows, steps)
 }
 
 /// The same, if the first commands tell it.
@@ -114,12 +121,13 @@ fn begun<'a>(
     view: &'a HistoryView,
     query: &Query,
     matching: &Matching<'_>,
+    rows: Newest<'a>,
     steps: &mut u64,
 ) -> Result<Option<Vec<ShownCommand<'a>>>, NoMemory>
     requires limit { 1 ≤ query.now.limit }
     requires matching { matching.now ≡ wanted_of query.now }
+    requires makes { MakesAnswer query.now view.now (walked_in rows.inner) }
     ensures page { IfOk result (λ found. IfSome found (λ hits. IsAnswerOf query.now (newest_of view.now) (seen_of hits.items))) }
-    ensures listed { IfOk result (λ _. ListsShown view.now (newest_of view.now)) }
     ensures steps { steps.new ≤ steps.old + 2048 }
 {
     let memo = blank(alloc, view.text_count())?;
@@ -129,12 +137,13 @@ fn begun<'a>(
         query,
         matching,
         memo,
+        rows,
         Some(FIRST_COMMANDS),
         steps,
     )
 }
 
-/// The same by all commands, with what is known of their texts.
+/// The same by all these commands, with what is known of their texts.
 ///
 /// # Errors
 ///
@@ -145,6 +154,7 @@ fn whole<'a>(
     query: &Query,
     matching: &Matching<'_>,
     memo: Memo,
+    rows: Newest<'a>,
     steps: &mut u64,
 ) -> Result<Vec<ShownCommand<'a>>, NoMemory>
     requires limit { 1 ≤ query.now.limit }
@@ -152,18 +162,18 @@ fn whole<'a>(
     requires distinct { AreDistinct view.now.texts }
     requires remembers { Remembers view.now.texts (test_of query.now) none_seen memo.items }
     requires long { length memo.items ≡ length view.now.texts }
+    requires makes { MakesAnswer query.now view.now (walked_in rows.inner) }
     ensures page { IfOk result (λ hits. IsAnswerOf query.now (newest_of view.now) (seen_of hits.items)) }
-    ensures listed { IfOk result (λ _. ListsShown view.now (newest_of view.now)) }
     ensures steps { steps.new ≤ steps.old + length (filter (in_scope (scope_seen query.now.filter)) (newest_of view.now)) }
     ensures known { IsKnown memo.items → steps.new ≡ steps.old }
 {
-    match walk(alloc, view, query, matching, memo, None, steps)? {
+    match walk(alloc, view, query, matching, memo, rows, None, steps)? {
         Some(hits) => Ok(hits),
         None => unreachable!(),
     }
 }
 
-/// The same by at most so many commands. It answers none where they don't tell.
+/// The same by at most so many of these commands. It answers none where they don't tell.
 ///
 /// # Errors
 ///
@@ -174,6 +184,7 @@ fn walk<'a>(
     query: &Query,
     matching: &Matching<'_>,
     memo: Memo,
+    rows: Newest<'a>,
     most: Option<u64>,
     steps: &mut u64,
 ) -> Result<Option<Vec<ShownCommand<'a>>>, NoMemory>
@@ -182,17 +193,13 @@ fn walk<'a>(
     requires distinct { AreDistinct view.now.texts }
     requires remembers { Remembers view.now.texts (test_of query.now) none_seen memo.items }
     requires long { length memo.items ≡ length view.now.texts }
+    requires makes { MakesAnswer query.now view.now (walked_in rows.inner) }
     ensures page { IfOk result (λ found. IfSome found (λ hits. IsAnswerOf query.now (newest_of view.now) (seen_of hits.items))) }
     ensures all { most ≡ None → IfOk result (λ found. IsSome found) }
-    ensures listed { IfOk result (λ _. ListsShown view.now (newest_of view.now)) }
     ensures steps { steps.new ≤ steps.old + length (filter (in_scope (scope_seen query.now.filter)) (newest_of view.now)) }
     ensures most { IfSome most (λ n. steps.new ≤ steps.old + n) }
     ensures known { IsKnown memo.items → steps.new ≡ steps.old }
 {
-    let rows = view.newest();
-    if !may_match(&memo) {
-        return Ok(Some(Vec::new(alloc)));
-    }
     let mut memo = memo;
     let mut left = most;
     let mut hits = Vec::new(alloc);
@@ -262,7 +269,7 @@ fn hit<'a>(
     if !scope.has(&walked.numbers) {
         return Ok(None);
     }
-    if is_miss(memo, walked.numbers.command) {
+    if is_miss(memo, walked.numbers.command as usize) {
         return Ok(None);
     }
     let command = view.text(walked.numbers.command);

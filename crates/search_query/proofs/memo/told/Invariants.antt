@@ -1,4 +1,4 @@
-use Rattle.std.proofs.Common.{◌≡◌, ◌≢◌, ◌+◌, ◌≤◌, ◌/◌, ◌%◌, length, true}
+use Rattle.std.proofs.Common.{◌≡◌, ◌≢◌, ◌/◌, ◌%◌, length, true}
 use Rattle.definitions.specs.Search.{matches_by}
 use Rattle.search_query.specs.Answers.{IsTold, PassesBy}
 use Rattle.search_query.proofs.memo.told.Given as goal

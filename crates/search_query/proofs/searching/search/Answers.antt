@@ -10,7 +10,7 @@ use Rattle.search_query.specs.Answers.{query_seen, seen_of, IsAnswerOf, ListsSho
 use Rattle.search_query.proofs.Answering.{answered}
 use Rattle.search_query.proofs.searching.search.Goals as goal
 
-answer_of : (query : Query) (s : ViewState) (newest : List HistoryRecord) (r : Result (Vec ShownCommand Global) NoMemory) → IfOk r (λ hits. IsAnswerOf query newest (seen_of hits.items)) → IfOk r (λ _. ListsShown s newest)
+answer_of : (query : Query) (s : ViewState) (newest : List HistoryRecord) (r : Result (Vec ShownCommand Global) NoMemory) → IfOk r (λ hits. IsAnswerOf query newest (seen_of hits.items)) → ListsShown s newest
     → IfOk r (λ hits. (changes : List Change) → Means s changes → HaveDistinctPlaces changes → SearchAnswer changes (query_seen query) (seen_of hits.items))
 answer_of query s newest (Ok hits) page lists = answered query s newest (seen_of hits.items) lists page
 answer_of query s newest (Err none) page lists = tt

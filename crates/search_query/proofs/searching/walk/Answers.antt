@@ -7,17 +7,17 @@ use Rattle.history_view.specs.declared.walk.Newest.{Newest}
 use Rattle.history_view.specs.declared.shown.ShownCommand.{ShownCommand}
 use Rattle.history_view.specs.Shown.{command_seen}
 use Rattle.history_view.specs.Walk.{walked_in, newest_of}
-use Rattle.search_query.specs.Answers.{IsOnWay, IsAnswerOf, Remembers, IsOneFewer, seen_of, seen_after, test_of}
+use Rattle.search_query.specs.Answers.{IsOnWay, MakesAnswer, IsAnswerOf, Remembers, IsOneFewer, seen_of, seen_after, test_of}
 use Rattle.definitions.specs.Journal.{HistoryRecord}
-use Rattle.search_query.proofs.Walks.{begins_walk, nothing_found, filled, passes_over, leaves_out, takes, ends, breaks, tested, tested_so_far}
+use Rattle.search_query.proofs.Walks.{begins_walk, filled, passes_over, leaves_out, takes, ends, breaks, tested, tested_so_far}
 use Rattle.search_query.proofs.Bounds.{begins_bounded, bounded_on, bounded_tests, stops, known_on}
 use Rattle.search_query.proofs.searching.walk.Goals as goal
 use Rattle.search_query.proofs.searching.walk.Goals.{in-None, in-Some+then-len-query, in-Some+else-len-query+in-Some-one_fewer+in_ok-found+in-Some-found+else-skip-gt0+in_ok-take+then-not-branch}
 
 pub loop-walked-init : goal.loop-walked-init
 loop-walked-init c = (
-  begins_walk c.args.query.now c.args.view.now (walked_in c.args.view.now.order) (walked_in c.into_iter-walked-iterator.result.inner) c.args.memo.items c.new-hits.result.items c.args.steps.now
-      (ap (λ (n : Newest). walked_in n.inner) c.into_iter-walked-iterator.ensures.into_iter_gives ∙ c.newest-rows.ensures.walked) c.newest-rows.ensures.rows c.requires.remembers c.requires.long c.new-hits.ensures.items,
+  begins_walk c.args.query.now c.args.view.now (walked_in c.into_iter-walked-iterator.result.inner) c.args.memo.items c.new-hits.result.items c.args.steps.now
+      (subst (λ (n : Newest). MakesAnswer c.args.query.now c.args.view.now (walked_in n.inner)) (sym c.into_iter-walked-iterator.ensures.into_iter_gives) c.requires.makes) c.requires.remembers c.requires.long c.new-hits.ensures.items,
   begins_bounded c.args.steps.now c.args.most,
   λ known. (known, refl),
 )
@@ -136,10 +136,6 @@ returns-in_default-clause-steps c =
 
 pub returns-in_default-clause-all : goal.returns-in_default-clause-all
 returns-in_default-clause-all c = λ e. absurd (stops c.args.steps.now c.loop-walked.steps c.args.most c.loop-walked.left c.loop-walked.invariant.1 c.in_default.ensures e)
-
-pub returns-then-not-may_match-clause-page : goal.returns-then-not-may_match-clause-page
-returns-then-not-may_match-clause-page c =
-    nothing_found c.args.query.now c.args.view.now c.args.memo.items c.requires.remembers c.requires.long (sym c.may_match.ensures ∙ c.if-not-may_match.true) c.new.result.items c.new.ensures.items c.newest-rows.ensures.rows
 
 pub returns-clause-most : goal.returns-clause-most
 returns-clause-most c = elim c.match-next.branch [

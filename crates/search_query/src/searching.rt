@@ -21,7 +21,7 @@ use record_model::Query;
 use std::alloc::Global;
 
 /// So many commands are walked to, the newest first, before all texts are looked through.
-const FIRST_COMMANDS: u64 = 2_048;
+const FIRST_COMMANDS: u64 = 4_096;
 
 /// The hits of the query, the newest first, of equal ones the first where they are to be unique, without the first `offset`,
 /// and as many as one reply may show. The limit is at least 1. Each match test of a command is one step; there is at most
@@ -78,7 +78,7 @@ fn found<'a>(
 
 /// Whether all texts may be looked through behind the first commands, for no more tests than there are commands.
 fn is_worth_a_look(commands: u64, texts: u64) -> bool
-    ensures { result ≡ true → texts + 2048 ≤ commands }
+    ensures { result ≡ true → texts + 4096 ≤ commands }
 {
     commands >= FIRST_COMMANDS && texts <= commands - FIRST_COMMANDS
 }
@@ -128,7 +128,7 @@ fn begun<'a>(
     requires matching { matching.now ≡ wanted_of query.now }
     requires makes { MakesAnswer query.now view.now (walked_in rows.inner) }
     ensures page { IfOk result (λ found. IfSome found (λ hits. IsAnswerOf query.now (newest_of view.now) (seen_of hits.items))) }
-    ensures steps { steps.new ≤ steps.old + 2048 }
+    ensures steps { steps.new ≤ steps.old + 4096 }
 {
     let memo = blank(alloc, view.text_count())?;
     walk(

@@ -191,11 +191,11 @@ fn a_session_of_many_is_searched_in_its_own_steps(rt: HostRuntime) -> Result<(),
     Ok(())
 }
 
-/// A view of 2,999 commands in one session: `Far back` first, then 70 texts of four digits over and over.
+/// A view of 4,999 commands in one session: `Far back` first, then 70 texts of four digits over and over.
 fn far_back(rt: &HostRuntime) -> Result<HistoryView, NoMemory> {
     let mut view = HistoryView::new(rt.alloc());
     end(rt, &mut view, 1, text(rt, "Far back")?, text(rt, "s1")?)?;
-    for number in 2..3000 {
+    for number in 2..5000 {
         end(
             rt,
             &mut view,
@@ -228,7 +228,7 @@ fn what_is_nowhere_is_not_found(rt: HostRuntime) -> Result<(), Fail> {
     assert_eq!(rt; times(&rt, &view, &query)?, (0, 0, 0));
     query.text = text(&rt, "0069")?;
     query.unique = true;
-    assert_eq!(rt; times(&rt, &view, &query)?, (2939, 0, 1));
+    assert_eq!(rt; times(&rt, &view, &query)?, (4969, 0, 1));
     query.offset = 1;
     assert_eq!(rt; times(&rt, &view, &query)?, (0, 0, 0));
     Ok(())

@@ -1,0 +1,20 @@
+//! The store: a log, and what is kept beside it of the journal that the log means.
+//!
+//! A batch comes to the disk on one path: what is in doubt is settled ([`Store::settle`]), room is made for all that the
+//! batch adds ([`Store::ready`]), and it is committed ([`Store::commit`]). So all memory is taken before the batch's own
+//! first write, and nothing can fail behind its last sync.
+//!
+//! Contracts say by `IsStoreOf` what a store means: a journal, each of whose entries the log's disk shows where it is said
+//! to stand, and the entries in doubt behind it.
+//!
+//! Stands on `record_log` for the log, and on `store_tables` for what is kept.
+#![tactic(auto)]
+
+mod committing;
+mod store;
+
+pub use record_log::{CreateFail, ReadFail};
+pub use store::Store;
+
+#[cfg(test)]
+mod tests;

@@ -21,7 +21,7 @@ use Rattle.daemon_wire.specs.declared.fail.CallFail.TheVariants as fails
 use Rattle.daemon_wire.specs.Calls.{IsRead}
 use Rattle.daemon_wire.specs.Writing.{IsCounted, IsShort}
 use Rattle.session_seats.specs.Stores.{StoreSeen, AnswersIn, FrontTold}
-use Rattle.session_seats.specs.Supplies.{Supplies, Uses}
+use Rattle.call_supplies.specs.Supplies.{Supplies, Uses}
 use Rattle.session_seats.specs.Answering.{AnswersCall, AnswerStands, AnswerFramed, ReplyTold, FailTold, bad_at, wanting}
 use Rattle.session_seats.proofs.SupplyLaws.{Uses-nothing}
 use Rattle.session_seats.proofs.WantingLaws.{answers_want}

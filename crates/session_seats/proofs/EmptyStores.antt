@@ -22,7 +22,7 @@ use Rattle.record_model.specs.declared.asking.Call as asked
 use Rattle.record_model.specs.declared.asking.Call.TheVariants as asks
 use Rattle.model_words.specs.Seen.{call_seen}
 use Rattle.session_seats.specs.Stores.{HasTurn, AnswersIn, FrontTold}
-use Rattle.session_seats.specs.Supplies.{supplies}
+use Rattle.call_supplies.specs.Supplies.{supplies}
 use Rattle.session_seats.specs.Answering.{AnswersCall}
 use Rattle.session_seats.specs.EmptyStores.{blind_store, empty_state, empty_store}
 use Rattle.session_seats.proofs.SupplyLaws.{Uses-nothing}

@@ -12,7 +12,7 @@ use Rattle.at_edge.specs.declared.ending.Served.{Served}
 use Rattle.at_edge.specs.declared.ending.SessionFail.{SessionFail}
 use Rattle.at_edge.specs.declared.ending.SessionFail.TheVariants as fails
 use Rattle.session_seats.specs.Stores.{StoreSeen}
-use Rattle.session_seats.specs.Supplies.{Supplies}
+use Rattle.call_supplies.specs.Supplies.{Supplies}
 use Rattle.session_seats.specs.Sessions.{most_requests, Pipe, SeatServes}
 use Rattle.session_seats.specs.Inputs.{IsEndOf}
 

@@ -22,7 +22,7 @@ use Rattle.at_edge.specs.declared.ending.SessionFail.TheVariants as fails
 use Rattle.at_edge.proofs.SourceLaws.{Gave-nothing, Gave-then}
 use Rattle.at_edge.proofs.SinkLaws.{Holds-nothing, Holds-then}
 use Rattle.session_seats.specs.Stores.{StoreFixed, StoreSeen, TurnsTold, RunsAlone}
-use Rattle.session_seats.specs.Supplies.{Supplies, Uses}
+use Rattle.call_supplies.specs.Supplies.{Supplies, Uses}
 use Rattle.session_seats.specs.Sessions.{most_requests, reply_frame, reply_frames, Pipe, Stands, Ends, SeatServes}
 use Rattle.session_seats.specs.Turns.{Answered, Unanswered, TakesTurn}
 use Rattle.session_seats.specs.declared.session.Turn.TheVariants as turns

@@ -4,7 +4,7 @@ use Rattle.definitions.proofs.Runs.{UsedFits-nothing, UsedFits-then}
 use Rattle.definitions.proofs.Counts.{RoseBy-nothing, RoseBy-then}
 use Rattle.at_edge.proofs.EntropyLaws.{Drew-nothing, Drew-then}
 use Rattle.at_edge.proofs.ClockLaws.{Told-nothing, Told-then}
-use Rattle.session_seats.specs.Supplies.{Supplies, Uses}
+use Rattle.call_supplies.specs.Supplies.{Supplies, Uses}
 
 pub Uses-nothing : (s : Supplies) → Uses s s used_nothing
 Uses-nothing s = record { fits = UsedFits-nothing; drew = Drew-nothing s.rand; failed = RoseBy-nothing s.rand.faults; told = Told-nothing s.clock }

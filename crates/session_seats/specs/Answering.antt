@@ -11,7 +11,7 @@ use Rattle.daemon_wire.specs.Writing.{IsShort}
 use Rattle.daemon_wire.specs.declared.fail.CallFail.{CallFail}
 use Rattle.daemon_wire.specs.declared.fail.CallFail.TheVariants as fails
 use Rattle.session_seats.specs.Stores.{StoreSeen, AnswersIn}
-use Rattle.session_seats.specs.Supplies.{Supplies, Uses}
+use Rattle.call_supplies.specs.Supplies.{Supplies, Uses}
 
 -- the call of this number was answered in one turn, and used so much
 abbrev pub AnswersCall : StoreSeen → StoreSeen → Supplies → Supplies → ℕ → Call → Reply → Type 0

@@ -1,5 +1,4 @@
 pub mod Stores
-pub mod Supplies
 pub mod Answering
 pub mod Frames
 pub mod Sessions

@@ -16,7 +16,7 @@ use Rattle.at_edge.specs.declared.ending.Served.{Served}
 use Rattle.at_edge.specs.declared.ending.SessionFail.{SessionFail}
 use Rattle.at_edge.specs.declared.ending.SessionFail.TheVariants as fails
 use Rattle.session_seats.specs.Stores.{StoreSeen, TurnsTold, RunsAlone}
-use Rattle.session_seats.specs.Supplies.{Supplies, Uses}
+use Rattle.call_supplies.specs.Supplies.{Supplies, Uses}
 use Rattle.session_seats.specs.Frames.{FramePrefix}
 
 -- a session ends with the reply to this request

@@ -9,7 +9,7 @@ use Rattle.step_rules.specs.Answers.{Reply}
 use Rattle.at_edge.specs.Taking.{Gave}
 use Rattle.at_edge.specs.Writing.{Holds, Stopped}
 use Rattle.session_seats.specs.Stores.{StoreSeen}
-use Rattle.session_seats.specs.Supplies.{Supplies}
+use Rattle.call_supplies.specs.Supplies.{Supplies}
 use Rattle.session_seats.specs.Answering.{AnswersPayload}
 use Rattle.session_seats.specs.Frames.{FramePrefix}
 use Rattle.session_seats.specs.Sessions.{Pipe, reply_frame}

@@ -7,7 +7,7 @@ ghost use Rattle.session_rules.specs.Bytes.{reply_bytes};
 ghost use Rattle.session_rules.specs.Within.{most_reply_bytes};
 ghost use Rattle.model_words.specs.Seen.{reply_seen};
 ghost use Rattle.daemon_wire.specs.Writing.{IsCounted};
-ghost use Rattle.session_seats.specs.Supplies.{supplies};
+ghost use Rattle.call_supplies.specs.Supplies.{supplies};
 ghost use Rattle.session_seats.specs.Answering.{AnswerStands, AnswerFramed, ReplyTold, FailTold, wanting};
 
 use crate::CallStore;

@@ -2,7 +2,7 @@
 
 ghost use Rattle.std.specs.Prelude.{◌≡◌, ◌++◌, length, true, IfOk, Some, List, ℕ};
 ghost use Rattle.definitions.specs.Frames.{CutAfter, frames};
-ghost use Rattle.session_seats.specs.Supplies.{supplies};
+ghost use Rattle.call_supplies.specs.Supplies.{supplies};
 ghost use Rattle.session_seats.specs.Sessions.{most_requests, pipe, SeatServes, ServesAlone};
 ghost use Rattle.session_seats.specs.Inputs.{IsEndOf};
 

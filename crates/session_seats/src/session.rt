@@ -2,7 +2,7 @@
 
 ghost use Rattle.std.specs.Prelude.{◌≡◌, ◌≤◌, length, true};
 ghost use Rattle.definitions.specs.Limits.{most_payload_bytes};
-ghost use Rattle.session_seats.specs.Supplies.{supplies};
+ghost use Rattle.call_supplies.specs.Supplies.{supplies};
 ghost use Rattle.session_seats.specs.Sessions.{pipe};
 ghost use Rattle.session_seats.specs.Turns.{TakesTurn};
 

@@ -10,7 +10,7 @@ pub trait CallStore {
     ghost use Rattle.model_words.specs.Seen.{call_seen, reply_seen};
     ghost use Rattle.session_rules.specs.Within.{ShowsWithin};
     ghost use Rattle.session_seats.specs.Stores.{StoreSeen, FrontTold};
-    ghost use Rattle.session_seats.specs.Supplies.{supplies};
+    ghost use Rattle.call_supplies.specs.Supplies.{supplies};
     ghost use Rattle.session_seats.specs.Answering.{AnswersCall};
 
     /// What never changes of it, what was last seen of it, and its turns so far.

@@ -1,6 +1,6 @@
 use Rattle.std.proofs.Common.{◌≡◌, ◌≤◌, length}
 use Rattle.definitions.specs.Limits.{most_payload_bytes}
-use Rattle.session_seats.specs.Supplies.{supplies}
+use Rattle.call_supplies.specs.Supplies.{supplies}
 use Rattle.session_seats.specs.Sessions.{pipe}
 use Rattle.session_seats.proofs.SeatLaws.{SoFar}
 use Rattle.session_seats.proofs.serving.serve_frames.Given as goal

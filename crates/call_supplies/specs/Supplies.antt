@@ -11,6 +11,12 @@ pub record Supplies : Type 0 where
 abbrev pub supplies : EntropySeen → ClockSeen → Supplies
 supplies rand clock = record { rand = rand; clock = clock }
 
+-- So much was drawn, in order, and no other bytes; for each draw that failed a fault was counted.
+pub record UsesRandom (old new : EntropySeen) (used : Used) : Type 0 where
+  pub fits : UsedFits used
+  pub drew : Drew old new used.drawn
+  pub failed : RoseBy used.faults old.faults new.faults
+
 -- So much was drawn and read, in order, and nothing else; for each draw that failed a fault was counted.
 pub record Uses (old new : Supplies) (used : Used) : Type 0 where
   pub fits : UsedFits used

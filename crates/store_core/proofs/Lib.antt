@@ -1,2 +1,3 @@
 pub mod Standing
 pub mod Committed
+pub mod Opened

@@ -11,9 +11,10 @@
 #![tactic(auto)]
 
 mod committing;
+mod opening;
 mod store;
 
-pub use record_log::{CreateFail, ReadFail};
+pub use record_log::{CreateFail, OpenFail, ReadFail};
 pub use store::Store;
 
 #[cfg(test)]

@@ -1,5 +1,5 @@
 -- What a store means after a commit, and after settling.
-use Rattle.std.proofs.Common.{◌≡◌, ℕ, ◌+◌, ◌<◌, ◌≤◌, ◌^◌, ◌⊎◌, inl, inr, List, [], ◌∷◌, ◌++◌, length, map, Vec, Global, Option, Some, None, Result, Ok, Err, refl, sym, ap, subst, ◌∙◌}
+use Rattle.std.proofs.Common.{◌≡◌, ℕ, ◌+◌, ◌<◌, ◌≤◌, ◌^◌, ◌⊎◌, inl, inr, List, [], ◌∷◌, ◌++◌, length, map, Vec, Global, Option, Some, None, Result, Ok, Err, refl, sym, ap, subst, ◌∙◌, arith}
 use Rattle.std.specs.Prelude.{All, ◌≢◌}
 use Rattle.std.proofs.lemmas.List.{map-append, append-nil}
 use Rattle.std.proofs.lemmas.List.Elements.{All-append}
@@ -101,6 +101,12 @@ without_batch old new key tables filed doubt follows there sound means is room =
 
 -- ---- committing
 
+pub some_entries : (entries : List Entry) → IsBatch (events_of entries) → entries ≢ []
+some_entries entries batch none =
+    let some = batch.some in
+    let short : length (events_of entries) ≡ 0 = ap (λ (es : List Entry). length (events_of es)) none in
+    omega (arith, some, short)
+
 pub log_of : (log : LogSeen) (journal : List Entry) (doubt : Option Batch) → doubt ≡ None → LogMeans log journal doubt → HasJournal log journal
 log_of log journal None none means = means
 log_of log journal (Some batch) none means = absurd cc
@@ -142,7 +148,7 @@ module _ (old : StoreSeen) (journal : List Entry) (batch : Batch) (bytes : Ready
     after_doubt has =
         subst (λ (j : List Entry). IsStoreOf (record { log = new; key = old.key; tables = old.tables; doubt = Some batch }) j (entries_of batch)) (sym may.is.journal_is)
         (without_batch old.log new old.key old.tables may.is.filed (Some batch) follows may.is.there filed_sound
-        (subst (λ (j : List Entry). HasDoubt new j (entries_of batch)) may.is.journal_is has) may.is.tables may.ready)
+        (subst (λ (j : List Entry). HasDoubt new j (entries_of batch)) may.is.journal_is has) may.is.tables (some_entries (entries_of batch) may.entries, may.ready))
 
     -- where the log is in doubt, so is the batch; else it is lost
     pub commit_doubted : new.doubt ≢ None → FailsSo new → IsLostOrDoubted old (record { log = new; key = old.key; tables = old.tables; doubt = Some batch }) journal batch
@@ -233,9 +239,9 @@ module _ (old : StoreSeen) (journal doubt : List Entry) (batch other : Batch) (i
 
   ready_other : IsReadyBatch old.key old.tables other
   ready_other = record {
-    few = subst (λ (es : Vec model.Event Global). length es.items < 2 ^ 32) (sym same) is.room.few;
-    entries = subst (λ (es : Vec model.Event Global). HasRoomFor old.tables.entries (events_seen es.items)) (sym same) is.room.entries;
-    rooms = subst (λ (es : Vec model.Event Global). AreRooms old.key old.tables.kept (events_seen es.items) other.rooms.items) (sym same) (subst (λ (rs : Vec EventRoom Global). AreRooms old.key old.tables.kept (events_seen batch.events.items) rs.items) (sym rooms) is.room.rooms);
+    few = subst (λ (es : Vec model.Event Global). length es.items < 2 ^ 32) (sym same) is.room.1.few;
+    entries = subst (λ (es : Vec model.Event Global). HasRoomFor old.tables.entries (events_seen es.items)) (sym same) is.room.1.entries;
+    rooms = subst (λ (es : Vec model.Event Global). AreRooms old.key old.tables.kept (events_seen es.items) other.rooms.items) (sym same) (subst (λ (rs : Vec EventRoom Global). AreRooms old.key old.tables.kept (events_seen batch.events.items) rs.items) (sym rooms) is.room.1.rooms);
   }
 
   pub settle_adds : MayAddBatch old.log.host old.key old.tables is.filed other

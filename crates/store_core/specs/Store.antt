@@ -1,5 +1,5 @@
 -- What a store means: the journal of its entries, each at the place where its log's disk shows it, and the batch in doubt.
-use Rattle.std.specs.Prelude.{◌≡◌, ℕ, List, [], ◌++◌, map, All, Option, Some, None}
+use Rattle.std.specs.Prelude.{◌≡◌, ◌≢◌, ℕ, List, [], ◌++◌, map, All, Option, Some, None}
 use Rattle.record_rules.specs.Records.{Entry, Caller}
 use Rattle.record_rules.specs.Journal.{Sound}
 use Rattle.record_model.specs.declared.entries.Event as model
@@ -40,10 +40,10 @@ LogMeans log journal (Some batch) = HasDoubt log journal (entries_of batch)
 abbrev pub StandsThere : LogSeen → Filed → Type 0
 StandsThere log f = Tells log.disk (λ d. EventBefore log.gate d.shows f.spot f.at f.entry.event)
 
--- there is room for the batch in doubt, if there is one
+-- the batch in doubt, if there is one, has entries, and there is room for it
 abbrev pub HasRoomForDoubt : Option (List ℕ) → Tables → Option Batch → Type 0
 HasRoomForDoubt key tables None = Unit {0}
-HasRoomForDoubt key tables (Some batch) = IsReadyBatch key tables batch
+HasRoomForDoubt key tables (Some batch) = (entries_of batch ≢ []) × IsReadyBatch key tables batch
 
 -- the store means the journal, and the entries in doubt behind it
 pub record IsStoreOf (store : StoreSeen) (journal doubt : List Entry) : Type 0 where

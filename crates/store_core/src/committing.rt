@@ -1,15 +1,17 @@
 //! The one path by which entries come to the disk.
 
-ghost use Rattle.std.specs.Prelude.{◌≡◌, ◌≤◌, List, [], Some, None, length, All, IfOk, OnOk, IsErr};
+ghost use Rattle.std.specs.Prelude.{◌≡◌, ◌≤◌, ◌∷◌, List, [], Some, None, length, All, IfOk, OnOk, IsErr};
 ghost use Rattle.definitions.specs.Counts.{Rose};
 ghost use Rattle.record_rules.specs.Records.{Entry};
 ghost use Rattle.record_rules.specs.Journal.{EventFits};
-ghost use Rattle.record_model.specs.Seen.{events_seen};
+ghost use Rattle.record_model.specs.Seen.{event_seen, events_seen};
+ghost use Rattle.kept_views.specs.Rooms.{IsRoomFor};
 ghost use Rattle.store_core.specs.Store.{entries_of, IsStoreOf};
 ghost use Rattle.store_core.specs.Commits.{Settles, MayMake, MayCommit, Commits};
 
 use crate::store::Store;
 use at_edge::{Disk, DiskFault};
+use kept_views::EventRoom;
 use plain_types::NoMemory;
 use record_log::Ready;
 use record_model::{Caller, Event};
@@ -148,6 +150,34 @@ impl<D: Disk> Store<D> {
     {
         let bytes = self.log.ready(alloc, events.as_slice())?;
         let batch = self.tables.ready(alloc, &self.key, caller, events)?;
+        Ok((batch, bytes))
+    }
+
+    /// Makes a batch by the caller of one event, with room that was made for what it shows, and the batch's bytes, to be
+    /// committed next. Nothing shows of it.
+    ///
+    /// # Errors
+    ///
+    /// [`NoMemory`]. The store stands for the same journal.
+    pub fn ready_one(
+        &mut self,
+        alloc: Global,
+        caller: Caller,
+        event: Event,
+        room: EventRoom,
+    ) -> Result<(Batch, Ready), NoMemory>
+        requires fits { EventFits (event_seen event) }
+        requires settled { self.old.doubt ≡ None }
+        ensures ready { IfOk result (λ made. (journal : List Entry) → MayMake self.old journal caller (event ∷ []) → IsRoomFor self.old.key self.old.tables.kept (event_seen event) room → MayCommit self.new journal made.0 made.1) }
+        ensures caller { IfOk result (λ made. made.0.caller ≡ caller) }
+        ensures events { IfOk result (λ made. made.0.events.items ≡ event ∷ []) }
+        ensures same { (journal : List Entry) → IsStoreOf self.old journal [] → IsStoreOf self.new journal [] }
+        ensures log { self.new.log ≡ self.old.log }
+        ensures key { self.new.key ≡ self.old.key }
+        ensures doubt { self.new.doubt ≡ None }
+    {
+        let batch = self.tables.ready_one(alloc, caller, event, room)?;
+        let bytes = self.log.ready(alloc, batch.events.as_slice())?;
         Ok((batch, bytes))
     }
 }

@@ -12,6 +12,8 @@
 
 mod committing;
 mod opening;
+mod recording;
+mod starting;
 mod store;
 
 pub use record_log::{CreateFail, OpenFail, ReadFail};

@@ -20,4 +20,6 @@ pub use record_log::{CreateFail, OpenFail, ReadFail};
 pub use store::Store;
 
 #[cfg(test)]
+mod opening_tests;
+#[cfg(test)]
 mod tests;

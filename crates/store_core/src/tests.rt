@@ -21,7 +21,11 @@ const CALLER: Caller = Caller {
 };
 
 /// A new store of host 1, on a disk whose calls of these numbers fail. It has no key.
-fn new_store<R: Abort>(rt: &R, alloc: Global, failing: Vec<u64>) -> Result<Store<MemDisk>, Fail>
+pub(crate) fn new_store<R: Abort>(
+    rt: &R,
+    alloc: Global,
+    failing: Vec<u64>,
+) -> Result<Store<MemDisk>, Fail>
     ensures made { IfOk result (λ s. IsStoreOf s [] []) }
     ensures host { IfOk result (λ s. s.log.host ≡ 1) }
     ensures settled { IfOk result (λ s. s.doubt ≡ None) }
@@ -52,7 +56,10 @@ fn ls(alloc: Global) -> Result<Vec<Event>, Fail>
 }
 
 /// Commits that batch to a store of no entries.
-fn commit_ls(store: &mut Store<MemDisk>, alloc: Global) -> Result<Result<(), DiskFault>, Fail>
+pub(crate) fn commit_ls(
+    store: &mut Store<MemDisk>,
+    alloc: Global,
+) -> Result<Result<(), DiskFault>, Fail>
     requires new { IsStoreOf store.old [] [] }
     requires host { store.old.log.host ≡ 1 }
     requires settled { store.old.doubt ≡ None }

@@ -1,0 +1,6 @@
+mod Rows
+mod Turns
+mod Walks
+mod Finding
+mod Digits
+mod Asking

@@ -6,3 +6,4 @@ pub mod Stepping
 pub mod Turning
 pub mod Started
 pub mod Recorded
+pub mod PageTurns

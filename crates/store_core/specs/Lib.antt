@@ -5,3 +5,4 @@ pub mod Calls
 pub mod Starting
 pub mod Writing
 pub mod Recording
+pub mod Pages

@@ -7,15 +7,18 @@
 //! Contracts say by `IsStoreOf` what a store means: a journal, each of whose entries the log's disk shows where it is said
 //! to stand, and the entries in doubt behind it.
 //!
-//! Stands on `record_log` for the log, and on `store_tables` for what is kept.
+//! Stands on `record_log` for the log, on `store_tables` for what is kept, and on `page_growth` and `page_reading` for pages
+//! of records.
 #![tactic(auto)]
 
 mod committing;
 mod opening;
+mod pages;
 mod recording;
 mod starting;
 mod store;
 
+pub use pages::TakeFail;
 pub use record_log::{CreateFail, OpenFail, ReadFail};
 pub use store::Store;
 

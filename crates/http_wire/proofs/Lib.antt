@@ -1,3 +1,13 @@
+mod Announcing
+mod Answered
+mod Digits
+mod Found
 mod Handing
 mod Heads
+mod Lines
+mod Looked
+mod Named
 mod Requests
+mod Taken
+mod Texts
+mod Whole

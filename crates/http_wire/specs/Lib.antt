@@ -4,3 +4,12 @@ pub mod Phrases
 pub mod Written
 pub mod Seen
 pub mod Pieces
+pub mod Fronts
+pub mod Fields
+pub mod Occurring
+pub mod Heads
+pub mod Messages
+pub mod Looking
+pub mod Announced
+pub mod Reading
+pub mod Taken

@@ -1,0 +1,8 @@
+use Rattle.std.proofs.Common.{◌≡◌, ◌∙◌}
+use Rattle.std.specs.Str.{IsValidUpTo, valid_up_to}
+use Rattle.http_wire.proofs.Texts.{succeeds_at_utf8}
+use Rattle.http_wire.proofs.fields.is_text.Goals as goal
+
+pub returns : goal.returns
+returns c =
+    c.is_ok.ensures.value ∙ succeeds_at_utf8 c.from_utf8.result c.args.bytes.now (λ s. s.now ≡ c.args.bytes.now) (λ e. IsValidUpTo c.args.bytes.now (valid_up_to e)) c.from_utf8.ensures.cases

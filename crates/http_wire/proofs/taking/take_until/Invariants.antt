@@ -1,0 +1,9 @@
+use Rattle.std.proofs.Common.{◌-◌, length}
+use Rattle.http_wire.specs.Taken.{HoldsMore}
+use Rattle.http_wire.proofs.taking.take_until.Given as goal
+
+abbrev pub invariant-reads : goal.invariant-reads
+invariant-reads g l = HoldsMore (g.S.Source.source l.initial.source) (g.S.Source.source l.source) l.initial.held.items l.held.items
+
+abbrev pub decreases-reads : goal.decreases-reads
+decreases-reads g l = l.enough - length l.held.items

@@ -4,6 +4,9 @@
 //! batch adds ([`Store::ready`]), and it is committed ([`Store::commit`]). So all memory is taken before the batch's own
 //! first write, and nothing can fail behind its last sync.
 //!
+//! A call is one turn ([`Store::ask`]). What only asks is answered from what is kept. A writing call is drafted, its command
+//! starts or its payload is recorded, and it is committed on that path.
+//!
 //! Contracts say by `IsStoreOf` what a store means: a journal, each of whose entries the log's disk shows where it is said
 //! to stand, and the entries in doubt behind it.
 //!
@@ -11,12 +14,14 @@
 //! of records.
 #![tactic(auto)]
 
+mod asking;
 mod committing;
 mod opening;
 mod pages;
 mod recording;
 mod starting;
 mod store;
+mod writing;
 
 pub use pages::TakeFail;
 pub use record_log::{CreateFail, OpenFail, ReadFail};

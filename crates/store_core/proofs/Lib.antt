@@ -7,3 +7,4 @@ pub mod Turning
 pub mod Started
 pub mod Recorded
 pub mod PageTurns
+pub mod Answered

@@ -51,16 +51,11 @@ no_refusal (answers.Aliases found) refusal is = absurd cc
 no_refusal (answers.Places found) refusal is = absurd cc
 
 -- what is kept under the key, of the entries that are filed
-kept_under : (store : StoreSeen) (key : List ℕ) (journal doubt : List Entry) → store.key ≡ Some key → (is : IsStoreOf store journal doubt) → IsKeptOf store.tables.kept (keyed_store record_sealing store.log.host key) (journal_of is.filed)
-kept_under store key journal doubt keyed is = subst (λ (k : Option (List ℕ)). KeepsFor store.log.host k store.tables.kept (journal_of is.filed)) keyed is.tables.kept
-
 pub shown_only : (store : StoreSeen) (call : Call) (reply : Reply) (answer : Answer)
-    → ((keyed : KeyedStore) (filed : List Filed) → IsKeptOf store.tables.kept keyed (journal_of filed) → IsIndexOf store.tables.entries.index filed → Shows keyed (journal_of filed) call answer)
+    → ((key : List ℕ) (journal doubt : List Entry) → store.key ≡ Some key → IsStoreOf store journal doubt → Shows (keyed_store record_sealing store.log.host key) journal call answer)
     → Tells store reply answer → OnlyAsks store call reply
 shown_only store call reply answer shows tells = λ key journal doubt caller keyed is.
-    let here = shows (keyed_store record_sealing store.log.host key) is.filed (kept_under store key journal doubt keyed is) is.tables.entries.index in
-    let there : Shows (keyed_store record_sealing store.log.host key) journal call answer = subst (λ (j : List Entry). Shows (keyed_store record_sealing store.log.host key) j call answer) (sym is.journal_is) here in
-    read_turn answer refl there (record { journal_is = refl; doubt_is = refl; reply_is = tells journal doubt is })
+    read_turn answer refl (shows key journal doubt keyed is) (record { journal_is = refl; doubt_is = refl; reply_is = tells journal doubt is })
 
 pub wanting_only : (store : StoreSeen) (call : Call) (reply : Reply) → Tells store reply (refused no_memory) → OnlyAsks store call reply
 wanting_only store call reply tells = λ key journal doubt caller keyed is. short_unread_turn refl (record { journal_is = refl; doubt_is = refl; reply_is = tells journal doubt is })

@@ -13,7 +13,6 @@ ghost use Rattle.store_core.specs.Calls.{AsksUsing, OnlyAsks};
 
 use crate::store::Store;
 use at_edge::{Clock, Disk, Entropy};
-use call_answers::answer;
 use record_model::{Call, Caller, Refusal, Reply};
 use std::alloc::Global;
 
@@ -39,7 +38,7 @@ impl<D: Disk> Store<D> {
         ensures shows { OnlyAsks self.now (call_seen call.now) (reply_seen result) }
         ensures told { (reply_seen result).answer ≢ refused disk_fault }
     {
-        match answer(alloc, &self.tables.kept, self.tables.entries.index(), call) {
+        match self.answer(alloc, call) {
             Ok(shown) => self.reply(Ok(shown)),
             Err(_) => self.reply(Err(Refusal::NoMemory)),
         }

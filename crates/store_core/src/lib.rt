@@ -1,5 +1,8 @@
 //! The store: a log, and what is kept beside it of the journal that the log means.
 //!
+//! It is made on an empty disk ([`Store::create`]), or opened on one that has a log: its batches are read once more, and
+//! what they say is kept ([`Store::open_on`]).
+//!
 //! A batch comes to the disk on one path: what is in doubt is settled ([`Store::settle`]), room is made for all that the
 //! batch adds ([`Store::ready`]), and it is committed ([`Store::commit`]). So all memory is taken before the batch's own
 //! first write, and nothing can fail behind its last sync.
@@ -10,10 +13,11 @@
 //! Contracts say by `IsStoreOf` what a store means: a journal, each of whose entries the log's disk shows where it is said
 //! to stand, and the entries in doubt behind it.
 //!
-//! Stands on `record_log` for the log, on `store_tables` for what is kept, and on `page_growth` and `page_reading` for pages
-//! of records.
+//! Stands on `record_log` for the log, on `store_tables` for what is kept, on `call_drafts`, `payload_records` and
+//! `call_answers` for what calls add and show, and on `page_growth` and `page_reading` for pages of records.
 #![tactic(auto)]
 
+mod answering;
 mod asking;
 mod committing;
 mod opening;

@@ -1,20 +1,11 @@
-use Rattle.std.proofs.Common.{sym, ap, subst, ◌∙◌}
-use Rattle.chain_index.specs.Chains.{IndexSeen}
-use Rattle.chain_index.specs.Meaning.{IsIndexOf}
+use Rattle.std.proofs.Common.{sym, ap, ◌∙◌}
 use Rattle.model_words.specs.Seen.{call_seen, answer_seen, result_seen, reply_seen}
 use Rattle.step_rules.specs.Answers.{disk_fault}
-use Rattle.store_core.specs.Store.{StoreSeen, IsStoreOf}
-use Rattle.store_core.specs.Calls.{OnlyAsks}
 use Rattle.store_core.proofs.Turning.{no_refusal, shown_only, wanting_only}
 use Rattle.store_core.proofs.store.Store.read.Goals as goal
 
 pub returns-in-Ok-clause-shows : goal.returns-in-Ok-clause-shows
-returns-in-Ok-clause-shows g c =
-    let store : StoreSeen = record { log = c.self.inside.log; key = c.self.inside.key; tables = c.self.inside.tables; doubt = c.self.inside.doubt } in
-    subst (λ (s : StoreSeen). OnlyAsks s (call_seen c.args.call.now) (reply_seen c.reply.result)) c.self.view_is
-    (shown_only store (call_seen c.args.call.now) (reply_seen c.reply.result) (answer_seen c.in-Ok.shown)
-    (λ keyed filed kept index. c.in-Ok.ensures keyed filed kept (subst (λ (i : IndexSeen). IsIndexOf i filed) (sym c.index.ensures) index))
-    (λ journal doubt is. c.reply.ensures.front journal doubt (subst (λ (s : StoreSeen). IsStoreOf s journal doubt) c.self.view_is is)))
+returns-in-Ok-clause-shows g c = shown_only c.args.self.now (call_seen c.args.call.now) (reply_seen c.reply.result) (answer_seen c.in-Ok.shown) c.in-Ok.ensures c.reply.ensures.front
 
 pub returns-in-Ok-clause-told : goal.returns-in-Ok-clause-told
 returns-in-Ok-clause-told g c = λ told. no_refusal c.in-Ok.shown disk_fault (sym (ap result_seen c.reply.ensures.answer) ∙ told)

@@ -1,0 +1,75 @@
+//! Which note a store gets: by each call.
+
+use at_edge::{Clock, Disk, Entropy};
+use record_model::{Call, Caller, Reply};
+use state_notes::{Choice, Noted, NotedStore};
+use store_core::Store;
+
+/// The first note of a store.
+pub struct First<'a, D: Disk> {
+    pub store: &'a Store<D>,
+}
+
+impl<'a, D: Disk> Drop for First<'a, D> {
+    fn drop(self) {
+        let Self { store: _ } = self;
+    }
+}
+
+impl<'a, D: Disk> Choice for First<'a, D> {
+    ghost use Rattle.told_store.specs.Told.{IsFirst};
+
+    ghost fits = { λ c note. IsFirst c.store.now note };
+}
+
+/// The note after the store was asked for its front alone.
+#[derive(Drop)]
+pub struct Rested<'a> {
+    pub before: &'a NotedStore,
+}
+
+impl<'a> Choice for Rested<'a> {
+    ghost use Rattle.told_store.specs.Told.{HasRested};
+
+    ghost fits = { λ c note. HasRested c.before.now.note note };
+}
+
+/// The note after a call: with what the store, the random source and the clock were before it.
+pub struct Answered<'a, D: Disk, E: Entropy, C: Clock> {
+    pub before: &'a NotedStore,
+    pub store_was: &'a Noted<Store<D>>,
+    pub rand_was: &'a Noted<E>,
+    pub clock_was: &'a Noted<C>,
+    pub store: &'a Store<D>,
+    pub rand: &'a E,
+    pub clock: &'a C,
+    pub caller: Caller,
+    pub call: &'a Call,
+    pub reply: &'a Reply,
+}
+
+impl<'a, D: Disk, E: Entropy, C: Clock> Drop for Answered<'a, D, E, C> {
+    fn drop(self) {
+        let Self {
+            before: _,
+            store_was: _,
+            rand_was: _,
+            clock_was: _,
+            store: _,
+            rand: _,
+            clock: _,
+            caller: _,
+            call: _,
+            reply: _,
+        } = self;
+    }
+}
+
+impl<'a, D: Disk, E: Entropy, C: Clock> Choice for Answered<'a, D, E, C> {
+    ghost use Rattle.record_model.specs.Seen.{caller_seen};
+    ghost use Rattle.model_words.specs.Seen.{call_seen, reply_seen};
+    ghost use Rattle.call_supplies.specs.Supplies.{supplies};
+    ghost use Rattle.told_store.specs.Told.{CallTold};
+
+    ghost fits = { λ c note. CallTold c.store_was.now.value c.before.now.note c.store.now note (supplies (E.entropy c.rand_was.now.value) (C.clock c.clock_was.now.value)) (supplies (E.entropy c.rand.now) (C.clock c.clock.now)) (caller_seen c.caller) (call_seen c.call.now) (reply_seen c.reply.now) };
+}

@@ -1,0 +1,21 @@
+//! What each command of the program does that opens a store, over the outside that is handed in.
+//!
+//! [`status`] prints the chains of owner 0, and [`search`] the commands that a query finds. Both open the store that stands on
+//! the disk, write nothing to it, and hand the disk back; [`CommandFail`] says why nothing, or not all, was printed.
+//!
+//! Promise: what is printed is the words of `printing` for the journal that the disk shows, which it then still holds; and each
+//! refusal comes from what the contract says, with what stands after it.
+//!
+//! Stands on `store_core`, `key_text`, `printing`, `statuses`, and on `at_edge` for the outside.
+#![tactic(auto)]
+
+mod ends;
+mod finding;
+mod telling;
+
+pub use ends::{CommandFail, Told};
+pub use finding::search;
+pub use telling::status;
+
+#[cfg(test)]
+mod tests;

@@ -51,6 +51,9 @@ no_refusal (answers.Aliases found) refusal is = absurd cc
 no_refusal (answers.Places found) refusal is = absurd cc
 
 -- what is kept under the key, of the entries that are filed
+kept_under : (store : StoreSeen) (key : List ℕ) (journal doubt : List Entry) → store.key ≡ Some key → (is : IsStoreOf store journal doubt) → IsKeptOf store.tables.kept (keyed_store record_sealing store.log.host key) (journal_of is.filed)
+kept_under store key journal doubt keyed is = subst (λ (k : Option (List ℕ)). KeepsFor store.log.host k store.tables.kept (journal_of is.filed)) keyed is.tables.kept
+
 pub shown_only : (store : StoreSeen) (call : Call) (reply : Reply) (answer : Answer)
     → ((key : List ℕ) (journal doubt : List Entry) → store.key ≡ Some key → IsStoreOf store journal doubt → Shows (keyed_store record_sealing store.log.host key) journal call answer)
     → Tells store reply answer → OnlyAsks store call reply

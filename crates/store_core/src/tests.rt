@@ -14,7 +14,7 @@ use std::alloc::Global;
 use std::process::Abort;
 use std::test::Fail;
 
-const CALLER: Caller = Caller {
+pub(crate) const CALLER: Caller = Caller {
     number: 1,
     call: 1,
     settled_for: 0,

@@ -14,4 +14,4 @@ pub returns-in-Ok : goal.returns-in-Ok
 returns-in-Ok g c =
     let store : StoreSeen = record { log = c.self.inside.log; key = c.self.inside.key; tables = c.self.inside.tables; doubt = c.self.inside.doubt } in
     subst (λ (s : StoreSeen). (key : List ℕ) (journal doubt : List Entry) → s.key ≡ Some key → IsStoreOf s journal doubt → Shows (keyed_store record_sealing s.log.host key) journal (call_seen c.args.call.now) (answer_seen c.in-Ok.shown)) c.self.view_is
-        (shown store (call_seen c.args.call.now) (answer_seen c.in-Ok.shown) (λ keyed filed kept index. c.in-Ok.ensures keyed filed kept (subst (λ (i : IndexSeen). IsIndexOf i filed) (sym c.index.ensures) index)))
+    (shown store (call_seen c.args.call.now) (answer_seen c.in-Ok.shown) (λ keyed filed kept index. c.in-Ok.ensures keyed filed kept (subst (λ (i : IndexSeen). IsIndexOf i filed) (sym c.index.ensures) index)))

@@ -32,6 +32,8 @@ pub use record_log::{CreateFail, OpenFail, ReadFail};
 pub use store::Store;
 
 #[cfg(test)]
+mod asking_tests;
+#[cfg(test)]
 mod opening_tests;
 #[cfg(test)]
 mod recording_tests;

@@ -50,7 +50,7 @@ fn answer_frame<E: Entropy, C: Clock>(
     }
     answer_plain(alloc, journal, payload, rand, clock, frame);
     let length = (frame.len() - 4) as u32;
-    frame.overwrite_front(&length.to_be_bytes());
+    frame.overwrite_first(&length.to_be_bytes());
 }
 
 /// Reads a request into `buffer`, answers it, and writes the reply.

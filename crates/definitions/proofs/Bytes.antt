@@ -24,8 +24,8 @@ IsBytes-append front rest f r i =
       | inr le ↦ rw (get_or-append_right front rest (length front) i 0 refl le) (r (i - length front))
     ]
 
-pub IsBytes-front : (front rest : List ℕ) → IsBytes (front ++ rest) → IsBytes front
-IsBytes-front front rest h i =
+pub IsBytes-first : (front rest : List ℕ) → IsBytes (front ++ rest) → IsBytes front
+IsBytes-first front rest h i =
     elim (cases_lt i (length front)) [
       | inl lt ↦ rw (← get_or_append_left front rest 0 i lt) (h i)
       | inr le ↦ rw (get_or_past front i 0 le) (omega arith)

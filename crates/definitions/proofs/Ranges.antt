@@ -6,7 +6,7 @@ use Rattle.definitions.specs.Journal.{StartedRecord, JournalEntry, begun, begun_
 use Rattle.definitions.specs.Replies.{PlainReply}
 use Rattle.definitions.specs.Step.{Used, then_used, UsedFits, read_and_drew, PlainStep, unread, start_failed, start_taken, start_done, start_short, end_unbegun, end_again, end_done, end_short, searched, search_short}
 use Rattle.definitions.specs.Runs.{Run}
-use Rattle.definitions.proofs.Bytes.{IsBytes-front, IsBytes-rest}
+use Rattle.definitions.proofs.Bytes.{IsBytes-first, IsBytes-rest}
 use Rattle.definitions.proofs.Ids.{made_id-fits}
 use Rattle.definitions.proofs.Among.{Among-from_place, Contains-from_Among, Among-append}
 use Rattle.definitions.proofs.Steps.{begun_in-append}
@@ -20,7 +20,7 @@ module _ (P : ℕ → Type 0) (xs ys : List ℕ) (all : All P (xs ++ ys)) where
 
 UsedFits-parts : (a b : Used) → UsedFits (then_used a b) → UsedFits a × UsedFits b
 UsedFits-parts a b fits =
-    ((All-front (λ now. now < 2 ^ 64) a.readings b.readings fits.0, IsBytes-front a.drawn b.drawn fits.1), (All-rest (λ now. now < 2 ^ 64) a.readings b.readings fits.0, IsBytes-rest a.drawn b.drawn fits.1))
+    ((All-front (λ now. now < 2 ^ 64) a.readings b.readings fits.0, IsBytes-first a.drawn b.drawn fits.1), (All-rest (λ now. now < 2 ^ 64) a.readings b.readings fits.0, IsBytes-rest a.drawn b.drawn fits.1))
 
 fits_at : (a b : List JournalEntry) → a ≡ b → FitsJournal b → FitsJournal a
 fits_at a b e fits = subst FitsJournal (sym e) fits

@@ -81,6 +81,7 @@ fn leading_integer(bytes: &[u8]) -> Option<(i128, &[u8])>
 
 /// The length in the head of a text, and what stands behind the head.
 #[tactic(auto, unfolding(definitions::specs::Reading::text_head_at))]
+#[inline(always)]
 fn text_head_of(bytes: &[u8]) -> Option<(u32, &[u8])>
     ensures value { option_map (λ x. (x.0, x.1.now)) result ≡ text_head_at bytes.now }
     ensures shorter { IfSome result (λ x. length x.1.now ≤ length bytes.now) }

@@ -10,7 +10,7 @@ use Rattle.std.proofs.lemmas.Slice.Eq.{bytes_eq-Decides}
 use Rattle.definitions.specs.Journal.{HistoryRecord}
 use Rattle.definitions.specs.Ids.{id_text}
 use Rattle.definitions.specs.Reading.{◌>>=◌, integer_at, text_at, array_at, is_id_text, id_value, fits_64}
-use Rattle.definitions.proofs.Bytes.{IsBytes, IsBytes-front, IsBytes-rest, IsBytes-tail, Takes, bind_some, when_true, ReadsSpellings}
+use Rattle.definitions.proofs.Bytes.{IsBytes, IsBytes-first, IsBytes-rest, IsBytes-tail, Takes, bind_some, when_true, ReadsSpellings}
 use Rattle.definitions.proofs.Items.{both_true}
 use Rattle.definitions.proofs.Ids.{id_value-id_text, is_id_text-found, is_id_text-id_text}
 use Rattle.definitions.proofs.Numbered.{by_test}
@@ -297,7 +297,7 @@ record Found (tag : List ℕ) (version : Version) (bytes : List ℕ) (payload : 
 held_bytes : (held bytes : List ℕ) (before : Item) → IsBytes bytes → SpellsItems (before ∷ a_bin held ∷ []) bytes → IsBytes held
 held_bytes held bytes before are s =
     let behind : IsBytes s.1 = IsBytes-rest s.0 s.1 (subst IsBytes s.4 are) in
-    let bin : IsBytes s.3.0 = IsBytes-front s.3.0 s.3.1 (subst IsBytes s.3.4 behind) in
+    let bin : IsBytes s.3.0 = IsBytes-first s.3.0 s.3.1 (subst IsBytes s.3.4 behind) in
     IsBytes-rest (bin_head s.3.2.form (length held)) held (subst IsBytes s.3.2.are bin)
 
 command_found : (version : Version) (items : List Item) (bytes : List ℕ) (payload : Payload) → IsBytes bytes → SpellsItems items bytes → command_in version items ≡ Some payload → Found history_tag version bytes payload

@@ -22,11 +22,11 @@ impl Model for Bytes {
     ghost view = { λ b. record { items = b.inner.items; reserved = vec_capacity b.inner } };
 }
 
-fn write_front(bytes: &mut [u8], front: &[u8])
-    requires { length front.now ≤ length bytes.old }
-    ensures { bytes.new ≡ front.now ++ drop (length front.now) bytes.old }
+fn write_first(bytes: &mut [u8], first: &[u8])
+    requires { length first.now ≤ length bytes.old }
+    ensures { bytes.new ≡ first.now ++ drop (length first.now) bytes.old }
 {
-    bytes[..front.len()].copy_from_slice(front);
+    bytes[..first.len()].copy_from_slice(first);
 }
 
 impl Bytes {
@@ -133,13 +133,13 @@ impl Bytes {
         self.inner.truncate(len);
     }
 
-    /// Writes `front` over the first bytes, which are at least as many.
-    pub fn overwrite_front(&mut self, front: &[u8])
-        requires { length front.now ≤ length self.old.items }
-        ensures items { self.new.items ≡ front.now ++ drop (length front.now) self.old.items }
+    /// Writes `first` over the first bytes, which are at least as many.
+    pub fn overwrite_first(&mut self, first: &[u8])
+        requires { length first.now ≤ length self.old.items }
+        ensures items { self.new.items ≡ first.now ++ drop (length first.now) self.old.items }
         ensures reserved { self.old.reserved ≤ self.new.reserved }
     {
-        write_front(self.inner.as_mut_slice(), front);
+        write_first(self.inner.as_mut_slice(), first);
     }
 
     /// A copy of `from`.

@@ -40,7 +40,7 @@ pub fn answer_frame<T: CallStore, E: Entropy, C: Clock>(
     }
     answer_payload(alloc, store, number, payload, rand, clock, frame);
     let length = (frame.len() - 4) as u32;
-    frame.overwrite_front(&length.to_be_bytes());
+    frame.overwrite_first(&length.to_be_bytes());
 }
 
 /// Appends the reply to what the payload asks: to the call that it spells, or to none, with the place where it goes

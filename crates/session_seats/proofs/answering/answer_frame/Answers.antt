@@ -6,8 +6,8 @@ pub returns-clause-framed : goal.returns-clause-framed
 returns-clause-framed g c =
     let zeros : c.extend.new.self.items ≡ four_zeros = c.in-Ok.ensures.ok ∙ ap (λ (l : List ℕ). l ++ four_zeros) c.clear.ensures.items in
     let after : List ℕ = c.answer_payload.new.into.items in
-    answer_framed _ _ _ _ _ _ _ after c.overwrite_front.new.self.items (c.len.result - 4) c.answer_payload.ensures.stands zeros (ap (λ (n : ℕ). n - 4) c.len.ensures)
-    (c.overwrite_front.ensures.items ∙ ap (λ (l : List ℕ). l ++ drop (length l) after) c.to_be_bytes.ensures)
+    answer_framed _ _ _ _ _ _ _ after c.overwrite_first.new.self.items (c.len.result - 4) c.answer_payload.ensures.stands zeros (ap (λ (n : ℕ). n - 4) c.len.ensures)
+    (c.overwrite_first.ensures.items ∙ ap (λ (l : List ℕ). l ++ drop (length l) after) c.to_be_bytes.ensures)
 
 -- a reply is short enough for its frame
 pub overflow_cast-length : goal.overflow_cast-length

@@ -1,6 +1,6 @@
 -- A turn of the lock is a turn of its pass.
-use Rattle.std.proofs.Common.{◌≡◌, sym, ap, subst, ◌∙◌}
-use Rattle.std.specs.Prelude.{Some, IfSome}
+use Rattle.std.proofs.Common.{◌≡◌, ap, subst}
+use Rattle.std.specs.Prelude.{IfSome}
 use Rattle.session_rules.specs.Passes.{Pass}
 use Rattle.session_rules.specs.Books.{Book, PassTakes, PassGives, PassTurn}
 use Rattle.session_rules.proofs.Books.{taken_and_given}

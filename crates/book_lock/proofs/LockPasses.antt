@@ -8,7 +8,7 @@ use Rattle.session_rules.specs.Passes.{Pass, knowing, joined, Joins}
 use Rattle.session_rules.specs.Books.{Book, MayGive, Finds, has_seen, after_turn, PassTakes, PassGives}
 use Rattle.book_lock.specs.Views.{named, HeldBook, PassView, holding, learned, committed, freed, looked, both_views}
 use Rattle.book_lock.specs.Steps.{TakesBook}
-use Rattle.book_lock.specs.LockPasses.{LockPass, IsIdleAt, with_turn, IsTurnOf, found_of, out_with, IsIn, IsOutWith, IsPassSeat, PickedUp, GivesBack, left_by}
+use Rattle.book_lock.specs.LockPasses.{LockPass, with_turn, IsTurnOf, found_of, out_with, IsIn, IsOutWith, IsPassSeat, PickedUp, GivesBack, left_by}
 use Rattle.book_lock.proofs.Holding.{book_in}
 
 abbrev pub found_in : Option HeldBook → Book → Book

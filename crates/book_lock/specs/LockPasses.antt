@@ -3,7 +3,7 @@ use Rattle.std.specs.Prelude.{◌≡◌, ℕ, ◌-◌, ◌<◌, ◌^◌, [], ◌
 use Rattle.atomic_table.specs.Table.{Me}
 use Rattle.atomic_table.specs.Seated.{TableId}
 use Rattle.session_rules.specs.Passes.{Pass, most_passes}
-use Rattle.session_rules.specs.Books.{Book, MayGive, Finds, first_pass, has_seen, after_turn}
+use Rattle.session_rules.specs.Books.{Book, MayGive, Finds, first_pass, has_seen}
 use Rattle.book_lock.specs.Views.{HeldBook, PassView, named, holding, committed, freed}
 
 -- the lock of which it is, the pass itself, and the book that it found where its turn is out

@@ -1,6 +1,5 @@
 -- What the views find, and a list of the store's changes in whatever order makes of it: what a call is shown.
-use Rattle.std.proofs.Common.{◌≡◌, ◌<◌, ◌≤◌, ◌+◌, ℕ, List, [], ◌∷◌, ◌++◌, length, take, drop, map, Option, Some, Result, Ok, Err, IfOk, refl, sym, ap, ap₂, ◌∙◌, subst, arith, slice_index_or}
-use Rattle.std.specs.Prelude.{◌↔◌}
+use Rattle.std.proofs.Common.{◌≡◌, ◌<◌, ◌≤◌, ◌+◌, ℕ, List, [], ◌∷◌, ◌++◌, length, take, drop, map, Some, Result, Ok, Err, IfOk, refl, sym, ap, ap₂, ◌∙◌, subst, slice_index_or}
 use Rattle.std.proofs.lemmas.List.{map-append, map_more, take-append-drop, append-nil}
 use Rattle.std.proofs.Math.ListN.{drop_of_length-le}
 use Rattle.definitions.specs.Journal.{HistoryRecord}
@@ -16,10 +15,10 @@ use Rattle.view_rules.specs.Changes.{Change, HaveDistinctPlaces, SameChanges}
 use Rattle.view_rules.specs.Views.{ShowsKv}
 use Rattle.view_rules.specs.Answers.{Scope, ScopedQuery, SearchAnswer, Named, KvListAnswer, AliasListAnswer}
 use Rattle.view_rules.proofs.Sets.{set_makes_views}
-use Rattle.step_rules.specs.Calls.{Call, search_call, kv_get_call, kv_list_call, alias_list_call}
+use Rattle.step_rules.specs.Calls.{Call, search_call, kv_list_call, alias_list_call}
 use Rattle.step_rules.specs.Answers as answers
 use Rattle.step_rules.specs.Store.{KeyedStore, shown_changes}
-use Rattle.step_rules.specs.Step.{Shows, shows_hits, shows_value, shows_keys, shows_aliases}
+use Rattle.step_rules.specs.Step.{Shows, shows_hits, shows_keys, shows_aliases}
 use Rattle.model_words.specs.Seen as words
 use Rattle.history_view.specs.declared.shown.ShownCommand.{ShownCommand}
 use Rattle.history_view.specs.Buckets as buckets

@@ -1,24 +1,22 @@
 -- When an entry may come next, and what is kept with it.
-use Rattle.std.proofs.Common.{◌≡◌, ◌≢◌, ℕ, ◌+◌, ◌-◌, ◌≤◌, ◌<◌, ◌^◌, inl, inr, Bool, true, false, not, cond, List, [], ◌∷◌, ◌++◌, length, filter, Option, Some, None, refl, sym, ◌∙◌, ap, subst, arith, length-append}
-use Rattle.std.specs.Prelude.{◌&&◌, ◌||◌, ◌==◌, nat_eq, bytes_eq, slice_get, IsTrue, min}
-use Rattle.std.specs.List.{list_any}
+use Rattle.std.proofs.Common.{◌≡◌, ◌≢◌, ℕ, ◌+◌, ◌-◌, ◌≤◌, Bool, true, false, not, cond, List, [], ◌∷◌, ◌++◌, length, filter, Option, Some, None, refl, sym, ◌∙◌, ap, subst, arith}
+use Rattle.std.specs.Prelude.{◌&&◌, ◌==◌, nat_eq, bytes_eq, IsTrue}
 use Rattle.std.specs.Option.{is_some, unwrap_or}
 use Rattle.std.specs.Map.{lookup}
 use Rattle.std.proofs.lemmas.Bool.{eqb-true, eq-eqb, true≢false}
 use Rattle.std.proofs.lemmas.List.{length_push}
-use Rattle.std.proofs.lemmas.Slice.Eq.{bytes_eq-Decides}
 use Rattle.definitions.proofs.Items.{both_true}
 use Rattle.definitions.specs.Journal.{StartedRecord}
 use Rattle.record_rules.specs.Records.{SealedRecord, Entry, Event, Started, Local, Taken, event_weight, record_weight, started_weight}
-use Rattle.record_rules.specs.Journal.{Totals, events_of, own_events, own_of, records_of, chain, chain_of, held, held_of, in_place, is_owned_by, is_running, running, event_owner, event_place, event_record, closes_id, limit_passed, places_added, RecordFits, MayFollow, MayComeNext}
-use Rattle.record_rules.specs.OneMore.{chain_with, held_with, running_with}
+use Rattle.record_rules.specs.Journal.{Totals, events_of, own_events, records_of, chain, held, held_of, in_place, is_owned_by, is_running, running, event_owner, event_place, closes_id, limit_passed, places_added, RecordFits, MayFollow}
+use Rattle.record_rules.specs.OneMore.{chain_with, held_with}
 use Rattle.record_rules.proofs.OneMore.{chain_with_one, held_with_one}
 use Rattle.record_rules.proofs.Soundness.{local_not_started, taken_not_started}
 use Rattle.journal_check.specs.declared.owner_totals.OwnerTotals.{OwnerTotals}
-use Rattle.journal_check.specs.Tallies.{Tallies, ChainKey, begins, has_begun, is_known, runs_in, held_in, totals_seen, same_key, count_in, Keeps}
-use Rattle.journal_check.specs.Admission.{started_fits, record_fits, capped, has_room, with_entry, places_by, may_start, may_close, may_add, may_make, Marks, Holds, Starts, Adds, ClosesOne, Closes}
+use Rattle.journal_check.specs.Tallies.{Tallies, ChainKey, has_begun, is_known, runs_in, held_in, totals_seen, same_key, count_in, Keeps}
+use Rattle.journal_check.specs.Admission.{started_fits, record_fits, capped, has_room, with_entry, places_by, may_start, may_close, may_add, may_make, Holds, Starts, Adds, Closes}
 use Rattle.journal_check.proofs.Rooms.{both, started_within, within_started, record_within, within_record, Fits, room_fits, fits_room, room_none, none_room, added_by_count}
-use Rattle.journal_check.proofs.OneMore.{begun_one, running_one, with_id, begins_known, nothing_known, runs_one, closed_one, begun_at, begun_place, Alike, alike}
+use Rattle.journal_check.proofs.OneMore.{begun_one, running_one, begins_known, nothing_known, runs_one, closed_one, begun_at, begun_place, alike}
 
 -- ---- a command
 

@@ -1,6 +1,6 @@
 -- What one more entry makes of what is kept.
-use Rattle.std.proofs.Common.{◌≡◌, ◌≢◌, ℕ, zero, suc, ◌+◌, ◌-◌, ◌≤◌, ◌<◌, ◌^◌, inl, inr, Bool, true, false, not, cond, List, [], ◌∷◌, ◌++◌, length, filter, Option, Some, None, refl, sym, ◌∙◌, ap, subst, arith, length-append}
-use Rattle.std.specs.Prelude.{◌&&◌, ◌||◌, ◌==◌, nat_eq, bytes_eq, slice_get}
+use Rattle.std.proofs.Common.{◌≡◌, ◌≢◌, ℕ, zero, suc, ◌+◌, ◌-◌, Bool, true, false, not, cond, List, [], ◌∷◌, ◌++◌, filter, Some, refl, sym, ◌∙◌, ap}
+use Rattle.std.specs.Prelude.{◌||◌, ◌==◌, nat_eq, slice_get}
 use Rattle.std.specs.List.{list_any}
 use Rattle.std.specs.Cmp.Lexicographic.{pointwise}
 use Rattle.std.proofs.lemmas.Bool.{eqb-true, eq-eqb, true≢false}
@@ -8,8 +8,8 @@ use Rattle.std.proofs.lemmas.List.Folds.{list_any-append}
 use Rattle.std.proofs.lemmas.Slice.Eq.{bytes_eq-Decides}
 use Rattle.definitions.proofs.Items.{both_true}
 use Rattle.definitions.specs.Journal.{StartedRecord}
-use Rattle.record_rules.specs.Records.{SealedRecord, Entry, Event, Started, Local, Taken}
-use Rattle.record_rules.specs.Journal.{events_of, is_running, still_running, running, in_place}
+use Rattle.record_rules.specs.Records.{Entry, Event, Started, Local, Taken}
+use Rattle.record_rules.specs.Journal.{events_of, is_running, running}
 use Rattle.record_rules.specs.OneMore.{running_with}
 use Rattle.record_rules.proofs.OneMore.{running_with_one}
 use Rattle.record_rules.proofs.Soundness.{events_more}

@@ -1,18 +1,17 @@
 -- The limits as tests.
-use Rattle.std.proofs.Common.{◌≡◌, ℕ, suc, ◌+◌, ◌-◌, ◌≤◌, ◌<◌, ◌^◌, ◌⊎◌, inl, inr, Bool, true, false, cond, List, [], ◌∷◌, ◌++◌, length, Option, Some, None, refl, sym, ◌∙◌, ap, subst, arith}
-use Rattle.std.specs.Prelude.{◌&&◌, ◌||◌, filter, sum_by, nat_lt, nat_le, nat_eq, min}
+use Rattle.std.proofs.Common.{◌≡◌, ℕ, suc, ◌+◌, ◌-◌, ◌≤◌, ◌<◌, ◌⊎◌, inl, inr, Bool, true, false, cond, List, [], ◌∷◌, length, Option, Some, None, refl, sym, ap, arith}
+use Rattle.std.specs.Prelude.{◌&&◌, ◌||◌, filter, sum_by, nat_lt, nat_le}
 use Rattle.std.specs.List.{list_any}
 use Rattle.std.specs.Option.{option_or}
 use Rattle.std.proofs.lemmas.Bool.{leb-true, le-leb, ne_eqb, true≢false}
 use Rattle.definitions.specs.Journal.{StartedRecord}
 use Rattle.definitions.proofs.Items.{both_true}
 use Rattle.record_rules.specs.Records.{SealedRecord, Event, event_weight, record_weight}
-use Rattle.record_rules.specs.Journal.{ChainPlace, PassedLimit, Totals, held_of, records_of, in_place, places_of, places_added, limit_passed, entries_passed, weight_passed, places_passed, RecordFits, StartedFits}
-use Rattle.definitions.specs.Limits.{most_entries, most_held_weight, most_places}
-use Rattle.record_rules.proofs.Totals.{Room, room_from_none}
+use Rattle.record_rules.specs.Journal.{ChainPlace, PassedLimit, Totals, held_of, records_of, in_place, places_of, places_added, limit_passed, RecordFits, StartedFits}
+use Rattle.record_rules.proofs.Totals.{room_from_none}
 use Rattle.journal_check.specs.declared.owner_totals.OwnerTotals.{OwnerTotals}
 use Rattle.journal_check.specs.Tallies.{totals_seen}
-use Rattle.journal_check.specs.Admission.{started_fits, record_fits, capped, has_room, with_entry, places_by}
+use Rattle.journal_check.specs.Admission.{started_fits, record_fits, capped, has_room, places_by}
 
 pub both : (a b : Bool) → a ≡ true → b ≡ true → (a && b) ≡ true
 both true b p q = q

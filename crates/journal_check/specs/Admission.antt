@@ -1,5 +1,5 @@
 -- When an entry may come next, by what is kept; and what taking it adds.
-use Rattle.std.specs.Prelude.{◌≡◌, ℕ, ◌+◌, ◌-◌, ◌^◌, ◌&&◌, min, not, Bool, true, false, List, ◌∷◌, [], ◌++◌, length, Option, Some, None, nat_eq, nat_lt, nat_le, cond, Result, Ok, Err}
+use Rattle.std.specs.Prelude.{◌≡◌, ℕ, ◌+◌, ◌-◌, ◌^◌, ◌&&◌, min, not, Bool, true, false, List, ◌∷◌, [], ◌++◌, length, Option, Some, None, nat_eq, nat_le, cond, Result, Ok, Err}
 use Rattle.definitions.specs.Journal.{StartedRecord}
 use Rattle.definitions.specs.Limits.{most_value_bytes, most_name_bytes, most_tag_bytes, most_page_weight, most_entries, most_held_weight, most_places}
 use Rattle.record_rules.specs.Records.{SealedRecord, Entry, Event, record_weight, started_weight}

@@ -13,7 +13,7 @@ use Rattle.std.proofs.lemmas.Cmp.{nat_list_eq_equiv}
 use Rattle.std.proofs.lemmas.Map.Text.{is_eq-slice_cmp}
 use Rattle.std.proofs.lemmas.Slice.Eq.{bytes_eq-Decides}
 use Rattle.view_rules.specs.Changes.{Change}
-use Rattle.view_rules.specs.Standing.{setting_cmp, later, setting_of, after_saying}
+use Rattle.view_rules.specs.Standing.{later, setting_of, after_saying}
 use Rattle.view_rules.specs.Standing as standing
 use Rattle.latest_values.specs.declared.setting.Setting.{Setting}
 use Rattle.latest_values.specs.Settings.{setting_seen, stands_later}

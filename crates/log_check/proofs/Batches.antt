@@ -1,19 +1,17 @@
 -- A batch that is read from the disk, and when it is no good one.
-use Rattle.std.proofs.Common.{◌≡◌, ◌≢◌, ℕ, ◌+◌, ◌-◌, ◌<◌, ◌≤◌, ◌^◌, List, [], ◌∷◌, ◌++◌, length, take, drop, Option, Some, None, Result, Err, refl, sym, ◌∙◌, ap, subst, arith, append_assoc, length-append}
+use Rattle.std.proofs.Common.{◌≡◌, ◌≢◌, ℕ, ◌+◌, ◌-◌, ◌<◌, ◌≤◌, ◌^◌, List, ◌∷◌, ◌++◌, length, take, drop, Option, Some, None, Err, refl, sym, ◌∙◌, ap, arith, append_assoc, length-append}
 use Rattle.std.specs.Prelude.{IfSome}
 use Rattle.std.specs.Int.{w32, to_be_bytes, from_be_bytes}
 use Rattle.std.proofs.lemmas.Nat.{from_be_bytes-to_be_bytes_4}
 use Rattle.std.proofs.lemmas.List.{take_at, drop_at, drop-drop, length-drop, take-append-drop}
 use Rattle.record_rules.specs.Records.{Event}
-use Rattle.record_rules.specs.Journal.{Sound}
 use Rattle.log_rules.specs.Body.{body_bytes, IsBatch}
-use Rattle.log_rules.specs.Opened.{opened_journal}
 use Rattle.log_rules.specs.Log.{Form, batch_digest, payload_bytes, HoldsGoodBatch}
 use Rattle.log_rules.proofs.Digests.{digest_length}
 use Rattle.disk_rules.specs.History.{History}
 use Rattle.at_edge.specs.Storing.{DiskSeen, Tells, Rests}
 use Rattle.journal_check.specs.Tallies.{Tallies}
-use Rattle.log_check.specs.Checking.{IsChecked, BodyFound, NoBody, ReadsBody}
+use Rattle.log_check.specs.Checking.{BodyFound, NoBody, ReadsBody}
 use Rattle.log_check.specs.declared.checking.BatchFail.{BatchFail}
 use Rattle.log_check.specs.declared.checking.BatchFail.TheVariants.{Bad, DiskFault, NoMemory}
 use Rattle.log_check.specs.Forms.{form_of, digest_bytes}

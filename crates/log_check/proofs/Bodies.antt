@@ -1,5 +1,5 @@
 -- A body in pieces whose events are checked as they come.
-use Rattle.std.proofs.Common.{◌≡◌, ◌≢◌, ℕ, zero, suc, ◌+◌, ◌-◌, ◌<◌, ◌≤◌, ◌^◌, ◌⊎◌, inl, inr, Bool, true, false, cond, List, [], ◌∷◌, ◌++◌, length, Option, Some, None, Result, Ok, Err, refl, sym, ◌∙◌, ap, subst, arith, append_assoc, length-append}
+use Rattle.std.proofs.Common.{◌≡◌, ℕ, zero, suc, ◌+◌, ◌-◌, ◌<◌, ◌≤◌, ◌^◌, ◌⊎◌, inl, inr, Bool, true, false, cond, List, [], ◌∷◌, ◌++◌, length, Option, Some, None, Result, Ok, Err, refl, sym, ◌∙◌, ap, subst, arith, append_assoc}
 use Rattle.std.specs.Prelude.{nat_le, ◌&&◌, ◌==◌}
 use Rattle.std.proofs.lemmas.Bool.{leb-true, eq-eqb, eqb-true, ne_eqb}
 use Rattle.std.proofs.lemmas.List.{append-nil, map-append, length-drop}
@@ -12,7 +12,7 @@ use Rattle.record_rules.proofs.Soundness.{Sound-push}
 use Rattle.record_rules.proofs.Prefixes.{Sound-prefix, last_may_follow}
 use Rattle.log_rules.specs.Body.{body_bytes, IsBatch}
 use Rattle.log_rules.specs.Opened.{opened_entry, opened_journal}
-use Rattle.log_rules.specs.Reading.{Reading, Stop, Cut, Wrong, ◌>>=◌, passed, with_more, at_start, number_at, count_at, event_at, events_at, body_events_at, whole_body, body_at}
+use Rattle.log_rules.specs.Reading.{Reading, Stop, Cut, Wrong, ◌>>=◌, passed, at_start, number_at, count_at, event_at, events_at, body_events_at, whole_body, body_at}
 use Rattle.log_rules.specs.Pieces.{Pieces, no_piece, pushed, left_by, Next, Given, Awaits, Over, Faulty, next_event, next_of, next_by, next_in, is_over, end_fault, HasGivenBy, HasGiven}
 use Rattle.log_rules.proofs.Readers.{bind_ok, ok_is}
 use Rattle.log_rules.proofs.Bodies.{chosen, body_field, read_body}

@@ -1,9 +1,8 @@
 -- A body that is read in pieces from the disk: when it is a batch's, and when it is none's.
-use Rattle.std.proofs.Common.{◌≡◌, ℕ, ◌+◌, ◌<◌, ◌≤◌, ◌^◌, ◌⊎◌, List, [], ◌∷◌, ◌++◌, length, take, drop, None, Some, Err, refl, sym, ◌∙◌, ap, subst, arith, take-take, take-add, drop-drop, take-append-drop, length-append}
+use Rattle.std.proofs.Common.{◌≡◌, ℕ, ◌+◌, ◌<◌, ◌≤◌, ◌^◌, ◌⊎◌, List, [], ◌++◌, length, take, drop, None, Some, Err, refl, sym, ◌∙◌, ap, subst, arith, take-take, take-add, drop-drop, take-append-drop}
 use Rattle.std.proofs.lemmas.List.{length-take, length-drop}
 use Rattle.definitions.specs.Spelling.{IsBytes}
 use Rattle.record_rules.specs.Records.{Event}
-use Rattle.log_rules.specs.Body.{body_bytes, IsBatch}
 use Rattle.log_rules.specs.Log.{batch_digest}
 use Rattle.log_rules.specs.Pieces.{Pieces, Awaits, Over, next_in, end_fault}
 use Rattle.log_format.specs.Answers.{Ends}

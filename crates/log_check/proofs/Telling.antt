@@ -1,5 +1,5 @@
 -- What a disk that may tell shows, and what follows from it.
-use Rattle.std.proofs.Common.{◌≡◌, ◌≤◌, Option, Some, None, sym, ◌∙◌, subst, arith}
+use Rattle.std.proofs.Common.{Option, Some, None, sym, ◌∙◌, subst, arith}
 use Rattle.std.specs.Prelude.{IfSome}
 use Rattle.disk_rules.specs.Disk.{Disk}
 use Rattle.disk_rules.specs.History.{History}

@@ -1,11 +1,11 @@
 -- One batch more on the way to the closed gate, and where the way ends.
-use Rattle.std.proofs.Common.{◌≡◌, ◌≢◌, ℕ, ◌+◌, ◌<◌, ◌≤◌, List, [], ◌∷◌, ◌++◌, length, take, drop, refl, sym, ◌∙◌, ap, subst, arith, append_assoc, append-nil, length-append}
+use Rattle.std.proofs.Common.{◌≡◌, ◌≢◌, ℕ, ◌+◌, ◌<◌, List, [], ◌∷◌, ◌++◌, length, take, drop, refl, sym, ◌∙◌, ap, subst, arith, append_assoc, append-nil, length-append}
 use Rattle.std.proofs.lemmas.List.{take_at, take-append-drop, length-take}
 use Rattle.record_rules.specs.Records.{Event}
 use Rattle.record_rules.specs.Journal.{Sound}
 use Rattle.log_rules.specs.Body.{IsBatch}
 use Rattle.log_rules.specs.Opened.{opened_journal}
-use Rattle.log_rules.specs.Log.{Form, Batch, payload_bytes, batch_bytes, header_bytes, IsLogPrefix, HasHeader, HoldsGoodBatch, DamagedAt}
+use Rattle.log_rules.specs.Log.{Form, payload_bytes, batch_bytes, header_bytes, IsLogPrefix, HasHeader, HoldsGoodBatch, DamagedAt}
 use Rattle.log_rules.proofs.Logs.{prefix_more}
 use Rattle.at_edge.specs.Storing.{DiskSeen, Tells, Rests}
 use Rattle.journal_check.specs.Tallies.{Tallies}

@@ -1,13 +1,12 @@
 -- Batches that are read and checked one by one, each event once its bytes are there.
-use Rattle.std.specs.Prelude.{◌≡◌, ℕ, ◌+◌, ◌<◌, List, [], ◌++◌, length, take, drop, Result, Ok, Err, ⊤}
+use Rattle.std.specs.Prelude.{◌≡◌, ℕ, ◌+◌, List, ◌++◌, length, take, drop, Result, Ok, Err, ⊤}
 use Rattle.definitions.specs.Counts.{Rose}
-use Rattle.definitions.specs.Spelling.{IsBytes}
 use Rattle.record_rules.specs.Records.{Event}
 use Rattle.record_rules.specs.Journal.{Sound}
 use Rattle.log_rules.specs.Body.{body_bytes, IsBatch}
 use Rattle.log_rules.specs.Opened.{opened_journal}
 use Rattle.log_rules.specs.Pieces.{Pieces, HasGiven}
-use Rattle.log_rules.specs.Log.{batch_digest, current_form, payload_bytes, HoldsGoodBatch}
+use Rattle.log_rules.specs.Log.{batch_digest}
 use Rattle.journal_check.specs.Tallies.{Tallies, Keeps}
 use Rattle.at_edge.specs.Storing.{DiskSeen, Tells}
 use Rattle.log_check.specs.declared.checking.BatchFail.{BatchFail}

@@ -1,12 +1,11 @@
 -- The next event of a body in pieces.
-use Rattle.std.proofs.Common.{◌≡◌, ℕ, zero, suc, ◌+◌, ◌-◌, ◌≤◌, List, [], ◌∷◌, ◌++◌, length, take, drop, Option, Some, None, Result, Ok, Err, refl, sym, ◌∙◌, ap, subst, arith, length-append}
-use Rattle.std.proofs.lemmas.List.{take-append-drop, drop_at, length-drop, drop-drop, take_all}
+use Rattle.std.proofs.Common.{◌≡◌, ℕ, suc, ◌+◌, ◌-◌, ◌≤◌, List, length, take, drop, Some, None, Ok, sym, ◌∙◌, ap, arith}
+use Rattle.std.proofs.lemmas.List.{length-drop, drop-drop, take_all}
 use Rattle.std.proofs.lemmas.List.Edits.{take-paste}
 use Rattle.std.specs.List.{copy_within}
-use Rattle.definitions.specs.Spelling.{IsBytes}
 use Rattle.record_rules.specs.Records.{Event}
-use Rattle.log_rules.specs.Reading.{Reading, Stop, Cut, Wrong, count_at, event_at}
-use Rattle.log_rules.specs.Pieces.{Pieces, left_by, Next, Given, Awaits, Over, Faulty, next_event, next_of, next_by, next_in}
+use Rattle.log_rules.specs.Reading.{Reading, Cut, Wrong, count_at, event_at}
+use Rattle.log_rules.specs.Pieces.{Pieces, left_by, Given, Over, next_event, next_by, next_in}
 use Rattle.log_rules.proofs.Moves.{Moved}
 use Rattle.log_format.specs.declared.fails.Halt.{Halt}
 use Rattle.log_format.specs.declared.fails.Halt.TheVariants as halts

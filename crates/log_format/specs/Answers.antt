@@ -1,9 +1,9 @@
 -- How the answers of readers stand for the words of `log_rules`.
-use Rattle.std.specs.Prelude.{◌≡◌, ℕ, ◌⊎◌, List, Option, Some, None, Result, Ok, Err, ⊤}
+use Rattle.std.specs.Prelude.{◌≡◌, ℕ, ◌⊎◌, Option, Some, None, Result, Ok, Err, ⊤}
 use Rattle.record_rules.specs.Records as kept
 use Rattle.log_rules.specs.Reading as words
 use Rattle.log_rules.specs.Reading.{Reading, Field}
-use Rattle.log_rules.specs.Pieces.{Pieces, Next, Given, Awaits, Over, Faulty, next_in, end_fault}
+use Rattle.log_rules.specs.Pieces.{Pieces, Given, Awaits, Over, Faulty, next_in, end_fault}
 use Rattle.record_model.specs.declared.entries.Event.{Event}
 use Rattle.record_model.specs.Seen.{event_seen}
 use Rattle.log_format.specs.declared.fails.FormatFail.{FormatFail}

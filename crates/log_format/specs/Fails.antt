@@ -1,5 +1,4 @@
 -- What a whole body's fault is.
-use Rattle.std.specs.Prelude.{ℕ}
 use Rattle.log_format.specs.declared.fails.FormatFail.{FormatFail}
 use Rattle.log_format.specs.declared.fails.FormatFail.TheVariants as fails
 use Rattle.log_format.specs.declared.fails.Halt.{Halt}

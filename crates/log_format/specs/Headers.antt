@@ -1,5 +1,5 @@
 -- What reading a header answers.
-use Rattle.std.specs.Prelude.{◌≡◌, ℕ, List, Option, Some, Result, Ok, Err}
+use Rattle.std.specs.Prelude.{◌≡◌, ℕ, List, Some, Result, Ok, Err}
 use Rattle.log_rules.specs.Log.{Form, HasHeader, header_fault}
 use Rattle.log_format.specs.declared.fails.FormatFail.{FormatFail}
 use Rattle.log_format.specs.declared.fails.FormatFail.TheVariants.{Wrong, NoMemory}

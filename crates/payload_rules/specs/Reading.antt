@@ -1,6 +1,6 @@
 -- Reading items and payloads from left to right. Nothing rests on these words alone: the laws join them to what `Items`
 -- and `Payloads` say. What a record holds can be computed by them.
-use Rattle.std.specs.Prelude.{ℕ, zero, suc, ◌+◌, ◌^◌, pos, List, [], ◌∷◌, length, take, drop, Option, Some, None, Bool, true, ◌&&◌, bytes_eq, nat_lt, ◌==◌, if◌then◌else◌}
+use Rattle.std.specs.Prelude.{ℕ, zero, suc, ◌^◌, pos, List, [], ◌∷◌, length, take, drop, Option, Some, None, Bool, ◌&&◌, bytes_eq, nat_lt, ◌==◌, if◌then◌else◌}
 use Rattle.std.specs.Int.{w8, w16, w32}
 use Rattle.std.specs.Option.{option_or}
 use Rattle.definitions.specs.Journal.{HistoryRecord}

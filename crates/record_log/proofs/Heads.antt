@@ -1,7 +1,7 @@
 -- The header with which bytes begin, by the first 33 of them.
-use Rattle.std.proofs.Common.{◌≡◌, ℕ, ◌<◌, ◌≤◌, inl, inr, List, length, take, drop, Option, Some, None, Result, Ok, Err, sym, ◌∙◌, subst, arith, take-take}
+use Rattle.std.proofs.Common.{◌≡◌, ℕ, ◌<◌, ◌≤◌, inl, inr, List, length, take, Err, sym, ◌∙◌, subst, arith, take-take}
 use Rattle.std.proofs.lemmas.List.{length-take}
-use Rattle.log_rules.specs.Log.{Form, current_form, old_form, HasHeader, HasNoHeader, NotALog}
+use Rattle.log_rules.specs.Log.{Form, HasHeader, HasNoHeader}
 use Rattle.log_rules.proofs.Headers.{faulty_header}
 use Rattle.log_format.specs.Headers.{ReadsHeader}
 use Rattle.log_format.specs.declared.fails.FormatFail.{FormatFail}

@@ -4,7 +4,7 @@ use Rattle.definitions.specs.Counts.{Rose}
 use Rattle.record_rules.specs.Records.{Event}
 use Rattle.log_rules.specs.Opened.{opened_journal}
 use Rattle.log_rules.specs.Log.{current_form, old_form, HasHeader, NotALog, IsOldLog, DamagedAt, StandsFor}
-use Rattle.disk_rules.specs.Disk.{Disk, Leaves}
+use Rattle.disk_rules.specs.Disk.{Leaves}
 use Rattle.disk_rules.specs.Calls.{Sync}
 use Rattle.disk_rules.specs.History.{History}
 use Rattle.at_edge.specs.Storing.{DiskSeen, Tells, Succeeds, Fails, Arrives}

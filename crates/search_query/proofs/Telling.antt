@@ -1,5 +1,5 @@
 -- One look at a block tells of all its texts.
-use Rattle.std.proofs.Common.{◌≡◌, ℕ, zero, suc, List, [], ◌∷◌, ◌++◌, map, length, ◌⊎◌, inl, inr, Option, Some, None, Bool, true, false, cond, eqb, refl, sym, ap, subst, ◌∙◌, append_assoc}
+use Rattle.std.proofs.Common.{◌≡◌, ℕ, zero, suc, List, [], ◌∷◌, ◌++◌, map, length, ◌⊎◌, inl, inr, Option, Some, Bool, true, false, cond, eqb, refl, sym, ap, ◌∙◌, append_assoc}
 use Rattle.std.specs.Prelude.{slice_get}
 use Rattle.std.specs.Char.{is_ascii_uppercase, to_ascii_lowercase}
 use Rattle.std.specs.List.{list_any, starts_with}
@@ -7,8 +7,7 @@ use Rattle.std.proofs.lemmas.Bool.{true≢false}
 use Rattle.definitions.specs.Calls.{SearchMode, by_prefix, by_substring}
 use Rattle.definitions.specs.Search.{stands_in, matches_by, compared}
 use Rattle.definitions.proofs.Search.{stands_in-found, stands_in-at, starts_with-found}
-use Rattle.history_view.specs.Folded.{HoldsBlock}
-use Rattle.search_query.specs.Answers.{IsTold, PassesBy}
+use Rattle.search_query.specs.Answers.{IsTold}
 
 -- what stands in a text that stands in a block stands there
 stands_within : (query text block : List ℕ) → stands_in query text ≡ true → stands_in text block ≡ true → stands_in query block ≡ true

@@ -1,6 +1,6 @@
 -- A page that is taken in as a turn, and one that is read back.
 use Rattle.std.proofs.Common.{◌≡◌, ◌≢◌, ℕ, ◌+◌, ◌<◌, ◌⊎◌, inl, inr, Bool, true, false, cond, List, [], ◌∷◌, ◌++◌, length, map, take, get_or, Vec, Global, Option, Some, None, Result, Ok, Err, refl, sym, ap, subst, ◌∙◌, arith}
-use Rattle.std.specs.Prelude.{All, IfOk}
+use Rattle.std.specs.Prelude.{All}
 use Rattle.std.proofs.Math.Seq.{drop-append_seam}
 use Rattle.std.proofs.lemmas.List.{append-nil, map-append, length-map, length-take, take_more}
 use Rattle.std.proofs.lemmas.List.Elements.{All-drop}
@@ -15,7 +15,6 @@ use Rattle.record_model.specs.declared.entries.Caller as callers
 use Rattle.record_model.specs.declared.entries.Event as model
 use Rattle.record_model.specs.declared.sealed.Record.{Record}
 use Rattle.record_model.specs.Seen.{caller_seen, events_seen, record_seen, records_seen}
-use Rattle.at_edge.specs.Storing.{Tells}
 use Rattle.record_log.specs.Ready.{ReadyBatch}
 use Rattle.record_log.specs.Journals.{LogSeen, LeavesOneOfTwo}
 use Rattle.page_growth.specs.declared.pages.PageFail.{PageFail}
@@ -23,15 +22,15 @@ use Rattle.page_growth.specs.declared.pages.PageFail.TheVariants.{Refused, NoMem
 use Rattle.page_growth.specs.Checking.{refusal_seen, chosen, OfJournal, Checks}
 use Rattle.page_growth.proofs.Chosen.{chosen-push}
 use Rattle.page_growth.proofs.Taking.{seen_more}
-use Rattle.page_reading.specs.Reading.{MayRead, OfLog, IsPage, LogRests}
+use Rattle.page_reading.specs.Reading.{LogRests}
 use Rattle.store_tables.specs.declared.tables.Tables.{Tables}
 use Rattle.store_tables.specs.declared.tables.Batch.{Batch}
 use Rattle.store_core.specs.Store.{StoreSeen, entry_by, entries_of, LogMeans, IsStoreOf}
 use Rattle.store_core.specs.Commits.{MayMake, MayCommit, IsLostOrDoubted}
 use Rattle.store_core.specs.Calls.{LeavesByTurn, TakesPage}
-use Rattle.store_core.specs.Pages.{page_answer_seen, take_fail_of, Grows, TellsPage}
+use Rattle.store_core.specs.Pages.{page_answer_seen, take_fail_of, Grows}
 use Rattle.store_core.proofs.Committed.{said_by, some_entries}
-use Rattle.store_core.proofs.Leaving.{rest_leaves, batch_leaves, commit_leaves, doubt_leaves, loss_leaves, settled_leaves, then_leaves, doubt_has_entries, nothing_doubted}
+use Rattle.store_core.proofs.Leaving.{rest_leaves, commit_leaves, doubt_leaves, loss_leaves, settled_leaves, then_leaves, doubt_has_entries, nothing_doubted}
 
 -- ---- the records that are taken, as entries
 

@@ -1,8 +1,8 @@
 -- Where a log's disk shows its entries, and shows them still.
-use Rattle.std.proofs.Common.{◌≡◌, ℕ, suc, ◌+◌, ◌≤◌, List, [], ◌∷◌, ◌++◌, length, map, take, drop, Option, Some, None, refl, sym, ap, subst, ◌∙◌, arith, append_assoc}
+use Rattle.std.proofs.Common.{◌≡◌, ℕ, ◌+◌, ◌≤◌, List, [], ◌∷◌, ◌++◌, length, take, drop, Option, Some, None, refl, sym, ap, subst, ◌∙◌, arith, append_assoc}
 use Rattle.std.specs.Prelude.{All, IfSome, slice_get}
-use Rattle.std.proofs.lemmas.List.{take-append-drop, take-take, map-append, length_push, append-nil}
-use Rattle.std.proofs.lemmas.List.Elements.{All-nil, All-cons, All-append, All-weaker}
+use Rattle.std.proofs.lemmas.List.{take-append-drop, take-take, length_push}
+use Rattle.std.proofs.lemmas.List.Elements.{All-nil, All-cons, All-weaker}
 use Rattle.record_rules.specs.Records.{Caller, Entry, Event}
 use Rattle.record_rules.specs.Journal.{SoundEvents, events_of}
 use Rattle.log_rules.specs.Log.{Form, current_form, IsLogPrefix}
@@ -13,7 +13,7 @@ use Rattle.disk_rules.specs.Disk.{Disk}
 use Rattle.disk_rules.specs.History.{History}
 use Rattle.at_edge.specs.Storing.{DiskSeen, Tells}
 use Rattle.record_log.specs.declared.spots.Spot.{Spot}
-use Rattle.record_log.specs.Journals.{LogSeen, HasJournal, HasSpot, KeepsBelow}
+use Rattle.record_log.specs.Journals.{LogSeen, HasJournal, KeepsBelow}
 use Rattle.record_log.specs.Reading.{spot_seen, BatchBefore, EventBefore}
 use Rattle.chain_index.specs.Meaning.{Filed}
 use Rattle.store_tables.specs.Entries.{filed_by}

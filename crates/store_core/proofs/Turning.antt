@@ -11,7 +11,7 @@ use Rattle.step_rules.specs.Step.{Draft, Drafts, Unknown, end_unknown, delete_un
 use Rattle.step_rules.specs.Turn.{settled, Turn, read_turn, short_unread_turn, unsettled_turn, step_turn, undrawn_turn, uncommitted_turn, short_settled_turn}
 use Rattle.record_seal.proofs.StoreSealing.{record_sealing}
 use Rattle.record_log.specs.Journals.{LeavesOneOfTwo}
-use Rattle.chain_index.specs.Meaning.{Filed, journal_of, IsIndexOf}
+use Rattle.chain_index.specs.Meaning.{journal_of}
 use Rattle.record_model.specs.declared.replying.Answer as model
 use Rattle.record_model.specs.declared.replying.Answer.TheVariants as answers
 use Rattle.record_model.specs.declared.replying.Refusal as refusing

@@ -1,5 +1,5 @@
 -- What settling, making room and committing make of a store.
-use Rattle.std.specs.Prelude.{◌≡◌, ◌≢◌, ℕ, ◌⊎◌, List, [], ◌++◌, map, None, Result, Ok, Err}
+use Rattle.std.specs.Prelude.{◌≡◌, ◌≢◌, ◌⊎◌, List, [], ◌++◌, map, None, Result, Ok, Err}
 use Rattle.record_rules.specs.Records.{Entry}
 use Rattle.record_rules.specs.Journal.{Sound, events_of}
 use Rattle.log_rules.specs.Body.{body_bytes, IsBatch}

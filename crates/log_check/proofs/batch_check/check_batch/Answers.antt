@@ -1,5 +1,4 @@
-use Rattle.std.proofs.Common.{◌≡◌, ◌≤◌, ◌+◌, ◌-◌, ℕ, ap, sym, subst, ◌∙◌, arith}
-use Rattle.at_edge.specs.Storing.{Tells, Rests}
+use Rattle.std.proofs.Common.{◌+◌, ◌-◌, ap, sym, subst, ◌∙◌, arith}
 use Rattle.log_check.specs.Forms.{form_of, digest_bytes}
 use Rattle.log_check.specs.Batches.{BatchFound}
 use Rattle.log_check.specs.declared.forms.LogForm.{LogForm}

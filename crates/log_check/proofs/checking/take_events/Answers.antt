@@ -1,5 +1,4 @@
-use Rattle.std.proofs.Common.{◌≡◌, ℕ, List, ◌++◌, sym, ◌∙◌, subst, Err}
-use Rattle.record_rules.specs.Records.{Event}
+use Rattle.std.proofs.Common.{◌≡◌, ℕ, ◌++◌, ◌∙◌, subst, Err}
 use Rattle.record_model.specs.Seen.{event_seen}
 use Rattle.log_rules.specs.Opened.{opened_journal}
 use Rattle.log_rules.specs.Pieces.{Given, next_in}

@@ -1,10 +1,9 @@
-use Rattle.std.proofs.Common.{◌≡◌, ◌≤◌, ◌<◌, ◌+◌, ℕ, List, [], ◌∷◌, ◌++◌, drop, refl, sym, ◌∙◌, subst, arith}
-use Rattle.record_rules.specs.Records.{Event}
+use Rattle.std.proofs.Common.{◌≡◌, ◌+◌, ℕ, [], ◌∷◌, ◌++◌, drop, refl, ◌∙◌, subst, arith}
 use Rattle.record_rules.specs.Journal.{Sound}
 use Rattle.record_rules.proofs.Soundness.{empty_sound}
 use Rattle.log_rules.specs.Opened.{opened_journal}
 use Rattle.log_rules.specs.Log.{HoldsGoodBatch}
-use Rattle.at_edge.specs.Storing.{Tells, Rests}
+use Rattle.at_edge.specs.Storing.{Tells}
 use Rattle.log_check.specs.Forms.{form_of}
 use Rattle.log_check.proofs.Telling.{tells_before, rests_then}
 use Rattle.log_check.proofs.Walks.{OpenThere, way_begun, way_closed, way_found, way_bad}

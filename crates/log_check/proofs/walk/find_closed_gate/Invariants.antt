@@ -1,4 +1,4 @@
-use Rattle.std.proofs.Common.{◌≡◌, ◌≤◌, ◌<◌, ◌-◌, ℕ, List, length, take}
+use Rattle.std.proofs.Common.{◌≡◌, ◌≤◌, ◌<◌, ◌-◌, List, length, take}
 use Rattle.record_rules.specs.Records.{Event}
 use Rattle.log_rules.specs.Log.{IsLogPrefix}
 use Rattle.at_edge.specs.Storing.{Tells, Rests}

@@ -1,4 +1,4 @@
-use Rattle.std.proofs.Common.{◌≡◌, ◌++◌}
+use Rattle.std.proofs.Common.{◌++◌}
 use Rattle.std.specs.Int.{w64, w128, to_be_bytes}
 use Rattle.log_rules.specs.Body.{text_bytes}
 use Rattle.log_format.proofs.Joins.{join}

@@ -1,8 +1,7 @@
-use Rattle.std.proofs.Common.{◌≡◌, ℕ, ◌∙◌, List, length, Result, Ok, Err, sym, ap, subst, arith}
+use Rattle.std.proofs.Common.{ℕ, ◌∙◌, List, Result, Err, sym, ap, subst, arith}
 use Rattle.record_rules.specs.Records as kept
-use Rattle.log_rules.specs.Reading.{Reading, at_start, count_at, body_at}
+use Rattle.log_rules.specs.Reading.{Reading, count_at, body_at}
 use Rattle.record_model.specs.Seen.{events_seen}
-use Rattle.log_format.specs.declared.fails.FormatFail.{FormatFail}
 use Rattle.log_format.specs.Answers.{Stops, FailsAs}
 use Rattle.log_format.proofs.Whole.{count_stops, counted_body, whole_with_rest, whole_without_rest}
 use Rattle.log_format.proofs.batches.read_batch.Goals as goal

@@ -1,4 +1,4 @@
-use Rattle.std.proofs.Common.{◌≡◌, ◌+◌, ◌≤◌, refl, sym, subst, arith}
+use Rattle.std.proofs.Common.{◌+◌, refl, sym, subst, arith}
 use Rattle.log_rules.specs.Reading.{events_at, whole_body}
 use Rattle.log_format.specs.declared.fails.FormatFail.{FormatFail}
 use Rattle.log_format.specs.Answers.{FailsAs}

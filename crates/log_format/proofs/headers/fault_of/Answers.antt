@@ -1,4 +1,4 @@
-use Rattle.std.proofs.Common.{◌≡◌, true, false}
+use Rattle.std.proofs.Common.{true, false}
 use Rattle.log_format.proofs.ReadHeaders.{zeros_behind, fault_0, fault_8, fault_24, fault_32, no_fault}
 use Rattle.log_format.proofs.headers.fault_of.Goals as goal
 

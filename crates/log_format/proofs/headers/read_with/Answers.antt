@@ -1,4 +1,4 @@
-use Rattle.std.proofs.Common.{◌≡◌, ◌∙◌, sym, subst, arith}
+use Rattle.std.proofs.Common.{sym, arith}
 use Rattle.log_format.proofs.ReadHeaders.{header_there}
 use Rattle.log_format.proofs.headers.read_with.Goals as goal
 

@@ -1,4 +1,4 @@
-use Rattle.std.proofs.Common.{◌≡◌, ℕ, List, Option, Bool, ap, sym, subst, ◌∙◌, arith}
+use Rattle.std.proofs.Common.{◌≡◌, ℕ, List, Option, Bool, subst, arith}
 use Rattle.definitions.specs.Search.{matches_by}
 use Rattle.search_query.specs.Matching.{Wanted}
 use Rattle.record_model.specs.declared.asking.Query.{Query}

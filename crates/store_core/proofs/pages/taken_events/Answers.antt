@@ -1,7 +1,6 @@
-use Rattle.std.proofs.Common.{◌≡◌, ◌+◌, ◌≤◌, List, length, map, take, get_or, false, refl, sym, ap, ◌∙◌, arith}
+use Rattle.std.proofs.Common.{◌≤◌, length, map, get_or, false, refl, ◌∙◌, arith}
 use Rattle.std.proofs.lemmas.List.{take_all}
-use Rattle.record_rules.specs.Records.{Event, Taken}
-use Rattle.record_model.specs.declared.sealed.Record.{Record}
+use Rattle.record_rules.specs.Records.{Taken}
 use Rattle.record_model.specs.Seen.{events_seen, records_seen}
 use Rattle.page_growth.specs.Checking.{chosen}
 use Rattle.store_core.proofs.PageTurns.{one_more_marked}

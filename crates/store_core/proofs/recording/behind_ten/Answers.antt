@@ -1,4 +1,4 @@
-use Rattle.std.proofs.Common.{drop, length, arith, ◌∙◌}
+use Rattle.std.proofs.Common.{drop, arith, ◌∙◌}
 use Rattle.std.proofs.lemmas.List.{length-drop, take_all}
 use Rattle.store_core.proofs.recording.behind_ten.Goals as goal
 

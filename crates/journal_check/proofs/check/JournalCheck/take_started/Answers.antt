@@ -1,4 +1,4 @@
-use Rattle.std.proofs.Common.{sym, ◌∙◌, ap, true, false}
+use Rattle.std.proofs.Common.{sym, ◌∙◌, true, false}
 use Rattle.std.proofs.lemmas.Bool.{true≢false}
 use Rattle.record_model.specs.Seen.{started_seen}
 use Rattle.journal_check.proofs.Admitted.{start_follows, follows_start, start_keeps}

@@ -1,7 +1,7 @@
-use Rattle.std.proofs.Common.{◌≡◌, ◌≢◌, ℕ, suc, ◌-◌, ◌∙◌, List, length, drop, Option, Some, Result, Ok, refl, sym, ap, subst, arith}
+use Rattle.std.proofs.Common.{◌≡◌, ℕ, suc, ◌-◌, ◌∙◌, List, length, drop, Some, Result, Ok, refl, sym, ap, subst, arith}
 use Rattle.log_rules.specs.Reading.{Reading, Stop}
-use Rattle.log_rules.specs.Pieces.{Pieces, Next, Given, next_in, left_by}
-use Rattle.log_rules.proofs.Moves.{Moved, next_moves}
+use Rattle.log_rules.specs.Pieces.{Pieces, Given, left_by}
+use Rattle.log_rules.proofs.Moves.{next_moves}
 use Rattle.record_model.specs.Seen.{event_seen}
 use Rattle.log_format.proofs.Following.{unread_inside, after_is_held, still_within, event_given}
 use Rattle.log_format.proofs.bodies.BodyReader.next.Goals as goal

@@ -1,8 +1,7 @@
-use Rattle.std.proofs.Common.{◌≡◌, ◌≢◌, List, None, sym, subst}
+use Rattle.std.proofs.Common.{◌≡◌, ◌≢◌, None, sym, subst}
 use Rattle.std.specs.Bool.{OnTrue, OnFalse}
-use Rattle.record_rules.specs.Records.{Entry}
 use Rattle.record_log.specs.Journals.{LeavesOneOfTwo}
-use Rattle.store_core.specs.Store.{StoreSeen, entries_of, IsStoreOf}
+use Rattle.store_core.specs.Store.{StoreSeen, entries_of}
 use Rattle.store_core.specs.Commits.{MayCommit, IsLostOrDoubted}
 use Rattle.store_core.proofs.Committed.{Follows, log_of, may_take, commit_adds, after_commit, commit_doubted, commit_lost}
 use Rattle.store_core.proofs.store.Store.commit.Goals as goal

@@ -1,8 +1,8 @@
-use Rattle.std.proofs.Common.{◌≡◌, List, [], Bool, Vec, Global, Result, Ok, Err, map, sym, ap, subst, ◌∙◌}
+use Rattle.std.proofs.Common.{List, [], Bool, Vec, Global, Result, Ok, Err, map, sym, ap, subst, ◌∙◌}
 use Rattle.std.proofs.lemmas.Result.{err_from_is_err_and}
-use Rattle.record_rules.specs.Records.{Entry, Taken}
+use Rattle.record_rules.specs.Records.{Taken}
 use Rattle.record_model.specs.declared.entries.Event as model
-use Rattle.record_model.specs.Seen.{events_seen, records_seen}
+use Rattle.record_model.specs.Seen.{records_seen}
 use Rattle.chain_index.specs.Chains.{IndexSeen}
 use Rattle.page_growth.specs.declared.pages.PageFail.{PageFail}
 use Rattle.page_growth.specs.Checking.{chosen, OfJournal, Checks}

@@ -1,5 +1,4 @@
-use Rattle.std.proofs.Common.{List, sym, subst}
-use Rattle.record_rules.specs.Records.{Entry}
+use Rattle.std.proofs.Common.{sym, subst}
 use Rattle.store_core.specs.Store.{StoreSeen, IsStoreOf}
 use Rattle.store_core.proofs.PageTurns.{rests_still}
 use Rattle.store_core.proofs.store.Store.page.Goals as goal

@@ -1,4 +1,4 @@
-use Rattle.std.proofs.Common.{◌≡◌, List, [], None, sym, subst}
+use Rattle.std.proofs.Common.{◌≡◌, [], None, sym, subst}
 use Rattle.store_core.specs.Store.{StoreSeen, IsStoreOf}
 use Rattle.store_core.specs.Commits.{MayMake}
 use Rattle.store_core.proofs.Committed.{made_ready, may_commit}

@@ -1,8 +1,7 @@
-use Rattle.std.proofs.Common.{◌≡◌, List, Option, Some, None, sym, ap, subst, ◌∙◌}
-use Rattle.record_rules.specs.Records.{Entry}
+use Rattle.std.proofs.Common.{Option, sym, ap, subst, ◌∙◌}
 use Rattle.record_log.specs.Journals.{LeavesOneOfTwo}
 use Rattle.store_tables.specs.declared.tables.Batch.{Batch}
-use Rattle.store_core.specs.Store.{StoreSeen, entries_of, IsStoreOf}
+use Rattle.store_core.specs.Store.{StoreSeen, IsStoreOf}
 use Rattle.store_core.specs.Commits.{Settles}
 use Rattle.store_core.proofs.Committed.{settle_nothing, held_batch}
 use Rattle.store_core.proofs.store.Store.settle.Goals as goal

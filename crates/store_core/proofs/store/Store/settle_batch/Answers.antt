@@ -1,5 +1,4 @@
-use Rattle.std.proofs.Common.{◌≡◌, List, Some, None, sym, subst}
-use Rattle.record_rules.specs.Records.{Entry}
+use Rattle.std.proofs.Common.{◌≡◌, Some, None, sym, subst}
 use Rattle.record_log.specs.Journals.{LeavesOneOfTwo}
 use Rattle.store_core.specs.Store.{StoreSeen, entries_of, IsStoreOf}
 use Rattle.store_core.proofs.Committed.{Follows, is_doubtful, settle_adds, after_settling, after_failing, leaves_same, some_held}

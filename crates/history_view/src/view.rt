@@ -22,7 +22,7 @@ ghost use Rattle.std.specs.BTreeMap.Range.{IsLeBy, IsLtBy, is_past_end};
 ghost use Rattle.history_view.specs.declared.walk.Walked.{Walked};
 ghost use Rattle.history_view.specs.Places.{OrderKey, key_cmp};
 ghost use Rattle.history_view.specs.Spans.{span_of, IsWithin, began_within};
-ghost use Rattle.history_view.specs.Folded.{HoldsBlock};
+ghost use Rattle.history_view.specs.Folded.{HoldsBlock, BeginsFolded};
 ghost use Rattle.std.specs.List.{filter, filter_map};
 ghost use Rattle.view_rules.specs.Answers.{in_scope};
 ghost use Rattle.history_view.specs.Counts.{Counts, SameCounts, count_of, the_command};
@@ -159,6 +159,13 @@ impl HistoryView {
         ensures { HoldsBlock self.now.texts block result.now }
     {
         self.texts.block(block)
+    }
+
+    /// The text of this number with its ASCII letters folded, and behind it other texts. It takes no memory.
+    pub fn folded_text(&self, number: usize) -> &[u8]
+        ensures { (text : List ℕ) → slice_get self.now.texts number ≡ Some text → BeginsFolded text result.now }
+    {
+        self.texts.folded(number)
     }
 
     /// The filter with its text by its number. It takes no memory.

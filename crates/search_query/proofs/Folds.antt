@@ -7,9 +7,9 @@ use Rattle.definitions.proofs.Search.{starts_with-found, starts_with-at}
 use Rattle.std.specs.Char.{is_ascii_uppercase, to_ascii_lowercase}
 use Rattle.std.specs.List.{list_any, starts_with}
 use Rattle.std.proofs.lemmas.Bool.Decides.{nat_tests}
-use Rattle.definitions.specs.Calls.{SearchMode, by_prefix, by_substring}
-use Rattle.definitions.specs.Search.{compared, stands_in, matches_by}
-use Rattle.search_query.specs.Matching.{matched}
+use Rattle.definitions.specs.Calls.{by_substring}
+use Rattle.definitions.specs.Search.{stands_in, matches_by}
+use Rattle.history_view.specs.Folded.{BeginsFolded}
 
 small_stays : (c : ℕ) → is_ascii_uppercase c ≡ false → to_ascii_lowercase c ≡ c
 small_stays c e = grind (arith, nat_tests)
@@ -22,19 +22,23 @@ folded_stays (c ∷ text) e = by (is_ascii_uppercase c) refl e (folded_stays tex
     by true t e rest = absurd cc
     by false t e rest = ap (λ (d : ℕ). d ∷ map to_ascii_lowercase text) (small_stays c t) ∙ ap (λ (cs : List ℕ). c ∷ cs) (rest e)
 
-pub as_it_is : (mode : SearchMode) (query command : List ℕ) → list_any is_ascii_uppercase command ≡ false → matched mode query command ≡ matches_by mode query command
-as_it_is mode query command small = by mode
-  where
-    by_case : (exact : Bool) → cond exact command (map to_ascii_lowercase command) ≡ command
-    by_case true = refl
-    by_case false = folded_stays command small
+-- ---- a command that stands folded
 
-    same : compared query command ≡ command
-    same = by_case (list_any is_ascii_uppercase query)
+pub folded_fits : (command part : List ℕ) → BeginsFolded command part → length command ≤ length part
+folded_fits command part begins =
+    let many = length-map command to_ascii_lowercase in
+    let both = ap (λ (cs : List ℕ). length cs) begins.1 in
+    let split = length-append (map to_ascii_lowercase command) begins.0 in
+    omega (arith, many, both, split)
 
-    by : (m : SearchMode) → matched m query command ≡ matches_by m query command
-    by by_prefix = ap (λ (cs : List ℕ). starts_with eqb cs query) (sym same)
-    by by_substring = ap (λ (cs : List ℕ). stands_in query cs) (sym same)
+pub folded_part : (command part : List ℕ) → BeginsFolded command part → take (length command) part ≡ map to_ascii_lowercase command
+folded_part command part begins =
+    ap (λ (n : ℕ). take n part) (sym (length-map command to_ascii_lowercase)) ∙ ap (take (length (map to_ascii_lowercase command))) begins.1 ∙ take-append_seam (map to_ascii_lowercase command) begins.0
+
+-- what stands in it is compared so
+pub folded_stands : (query command part : List ℕ) → list_any is_ascii_uppercase query ≡ false → BeginsFolded command part → stands_in query (take (length command) part) ≡ matches_by by_substring query command
+folded_stands query command part folds begins =
+    ap (stands_in query) (folded_part command part begins) ∙ ap (λ (b : Bool). stands_in query (cond b command (map to_ascii_lowercase command))) (sym folds)
 
 -- ---- a query that begins a command
 

@@ -1,17 +1,19 @@
 //! Whether a command matches the text of a query.
 
-ghost use Rattle.std.specs.Prelude.{◌≡◌, ℕ, List, true, false, IfOk, map, eqb};
+ghost use Rattle.std.specs.Prelude.{◌≡◌, ℕ, ◌≤◌, List, true, false, length, take, map, eqb};
 ghost use Rattle.std.specs.Char.{is_ascii_uppercase, to_ascii_lowercase};
 ghost use Rattle.std.specs.List.{list_any, starts_with};
 ghost use Rattle.definitions.specs.Search.{matches_by, stands_in};
+ghost use Rattle.history_view.specs.Folded.{BeginsFolded};
 ghost use Rattle.record_model.specs.Seen.{mode_seen};
 ghost use Rattle.search_query.specs.Matching.{matched};
 
 use memchr::memmem::Finder;
-use plain_types::NoMemory;
 use record_model::Mode;
-use std::alloc::Global;
 use std::marker::Model;
+
+/// So many bytes behind a text are looked through with it: the finder compares 32 at once.
+const BYTES_BEHIND: usize = 32;
 
 /// The text of a query, ready to be looked for: a text without ASCII capitals is compared with a
 /// command's ASCII letters folded, any other exactly. The finder is made once for all commands.
@@ -50,25 +52,19 @@ impl<'a> Matching<'a> {
         }
     }
 
-    /// Whether the command matches. The empty text matches every command.
-    ///
-    /// # Errors
-    ///
-    /// [`NoMemory`], where the command has letters to be folded.
-    pub fn matches(&self, alloc: Global, command: &[u8]) -> Result<bool, NoMemory>
-        ensures { IfOk result (λ b. b ≡ matches_by self.now.mode self.now.text command.now) }
+    /// Whether the command matches. The empty text matches every command. `folded` begins with the command, its ASCII letters
+    /// folded; what stands behind it tells nothing, but lets many bytes be compared at once.
+    pub fn matches(&self, command: &[u8], folded: &[u8]) -> bool
+        requires { BeginsFolded command.now folded.now }
+        ensures { result ≡ matches_by self.now.mode self.now.text command.now }
     {
         if self.is_exact {
-            return Ok(is_match(self.mode, &self.finder, self.text, command));
+            return is_match(self.mode, &self.finder, self.text, command);
         }
-        if let Mode::Prefix = self.mode {
-            return Ok(begins(self.text, command));
+        match self.mode {
+            Mode::Prefix => begins(self.text, command),
+            Mode::Substring => stands_before(&self.finder, folded, command.len()),
         }
-        if !has_capital(command) {
-            return Ok(is_match(self.mode, &self.finder, self.text, command));
-        }
-        let folded = folded(alloc, command)?;
-        Ok(is_match(self.mode, &self.finder, self.text, folded.as_slice()))
     }
 
     /// Whether one look at texts that stand folded in a block tells that none of them matches. Of a text with a capital it
@@ -88,17 +84,6 @@ fn has_capital(text: &[u8]) -> bool
     ensures { result ≡ list_any is_ascii_uppercase text.now }
 {
     text.iter().any(|byte| byte.is_ascii_uppercase())
-}
-
-/// The text with its ASCII letters folded to lower case.
-fn folded(alloc: Global, text: &[u8]) -> Result<Vec<u8>, NoMemory>
-    ensures { IfOk result (λ v. v.items ≡ map to_ascii_lowercase text.now) }
-{
-    Ok(
-        text.iter()
-            .map(|byte| byte.to_ascii_lowercase())
-            .collect(alloc)?,
-    )
 }
 
 /// Whether the text, which has no capital, begins the command with its ASCII letters folded.
@@ -128,4 +113,16 @@ fn contains(finder: &Finder<'_>, command: &[u8]) -> bool
     ensures { result ≡ stands_in finder.now command.now }
 {
     finder.find(command).is_some()
+}
+
+/// Whether what is looked for stands in the bytes before `end`.
+fn stands_before(finder: &Finder<'_>, bytes: &[u8], end: usize) -> bool
+    requires { end ≤ length bytes.now }
+    ensures { result ≡ stands_in finder.now (take end bytes.now) }
+{
+    let most = bytes.len().min(end.saturating_add(BYTES_BEHIND));
+    match finder.find(&bytes[..most]) {
+        Some(at) => at + finder.needle().len() <= end,
+        None => false,
+    }
 }

@@ -38,34 +38,29 @@ pub fn is_miss(memo: &Memo, number: usize) -> bool
 }
 
 /// Whether the command of this number matches, and wasn't seen. A test is one step.
-///
-/// # Errors
-///
-/// [`NoMemory`].
 pub fn matches(
     memo: &mut Memo,
-    alloc: Global,
     number: u32,
     command: &[u8],
     matching: &Matching<'_>,
     view: &HistoryView,
     steps: &mut u64,
-) -> Result<bool, NoMemory>
+) -> bool
     requires named { slice_get view.now.texts number ≡ Some command.now }
     requires long { length memo.old.items ≡ length view.now.texts }
-    ensures matches { (seen : Seens) → Remembers view.now.texts (matches_by matching.now.mode matching.now.text) seen memo.old.items → IfOk result (λ b. b ≡ (matches_by matching.now.mode matching.now.text command.now && not (seen command.now))) }
+    ensures matches { (seen : Seens) → Remembers view.now.texts (matches_by matching.now.mode matching.now.text) seen memo.old.items → result ≡ (matches_by matching.now.mode matching.now.text command.now && not (seen command.now)) }
     ensures memo { (seen : Seens) → Remembers view.now.texts (matches_by matching.now.mode matching.now.text) seen memo.old.items → Remembers view.now.texts (matches_by matching.now.mode matching.now.text) seen memo.new.items }
     ensures long { length memo.new.items ≡ length view.now.texts }
     ensures steps { steps.new ≤ steps.old + 1 }
     ensures known { IsKnown memo.old.items → IsKnown memo.new.items × (steps.new ≡ steps.old) }
 {
     match memo[number as usize] {
-        Some(known) => Ok(known),
+        Some(known) => known,
         None => {
             *steps = steps.saturating_add(1);
-            let known = matching.matches(alloc, command)?;
+            let known = matching.matches(command, view.folded_text(number as usize));
             memo[number as usize] = Some(known);
-            Ok(known)
+            known
         }
     }
 }
@@ -108,7 +103,7 @@ pub fn told(
     let mut is_passed = false;
     for number in 0..count {
         is_passed = passes_by(matching, view, number, is_passed);
-        let known = is_match(alloc, matching, view, number, is_passed)?;
+        let known = is_match(matching, view, number, is_passed);
         memo.push(Some(known))?;
     }
     Ok(memo)
@@ -126,26 +121,16 @@ fn passes_by(matching: &Matching<'_>, view: &HistoryView, number: usize, before:
 }
 
 /// Whether the text of this number matches.
-///
-/// # Errors
-///
-/// [`NoMemory`].
-fn is_match(
-    alloc: Global,
-    matching: &Matching<'_>,
-    view: &HistoryView,
-    number: usize,
-    is_passed: bool,
-) -> Result<bool, NoMemory>
+fn is_match(matching: &Matching<'_>, view: &HistoryView, number: usize, is_passed: bool) -> bool
     requires { is_passed ≡ true → PassesBy view.now.texts (matches_by matching.now.mode matching.now.text) (number / 64) }
-    ensures { IfOk result (λ b. (text : List ℕ) → slice_get view.now.texts number ≡ Some text → b ≡ matches_by matching.now.mode matching.now.text text) }
+    ensures { (text : List ℕ) → slice_get view.now.texts number ≡ Some text → result ≡ matches_by matching.now.mode matching.now.text text }
 {
     if is_passed {
-        return Ok(false);
+        return false;
     }
     match view.numbered(number) {
-        Some(text) => matching.matches(alloc, text),
-        None => Ok(false),
+        Some(text) => matching.matches(text, view.folded_text(number)),
+        None => false,
     }
 }
 

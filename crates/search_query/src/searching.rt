@@ -214,9 +214,7 @@ fn walk<'a>(
             return Ok(None);
         };
         left = fewer;
-        let found = hit(
-            view, alloc, query, &scope, matching, &mut memo, walked, steps,
-        )?;
+        let found = hit(view, query, &scope, matching, &mut memo, walked, steps);
         if let Some(h) = found {
             if skip > 0 {
                 skip -= 1;
@@ -240,54 +238,41 @@ fn one_fewer(left: Option<u64>) -> Option<Option<u64>>
 }
 
 /// The hit that was walked to, if it is one.
-///
-/// # Errors
-///
-/// [`NoMemory`].
 fn hit<'a>(
     view: &'a HistoryView,
-    alloc: Global,
     query: &Query,
     scope: &ScopeNumber,
     matching: &Matching<'_>,
     memo: &mut Memo,
     walked: Walked,
     steps: &mut u64,
-) -> Result<Option<ShownCommand<'a>>, NoMemory>
+) -> Option<ShownCommand<'a>>
     requires row { IsRow view.now walked }
     requires scope { Selects view.now.texts (scope_seen query.now.filter) scope.now }
     requires matching { matching.now ≡ wanted_of query.now }
     requires distinct { AreDistinct view.now.texts }
     requires long { length memo.old.items ≡ length view.now.texts }
-    ensures hit { (seen : Seens) → Remembers view.now.texts (test_of query.now) seen memo.old.items → IfOk result (λ found. option_map command_seen found ≡ hit_at query.now seen view.now walked) }
-    ensures memo { (seen : Seens) → Remembers view.now.texts (test_of query.now) seen memo.old.items → IfOk result (λ found. Remembers view.now.texts (test_of query.now) (seen_after query.now.unique seen (option_map command_seen found)) memo.new.items) }
+    ensures hit { (seen : Seens) → Remembers view.now.texts (test_of query.now) seen memo.old.items → option_map command_seen result ≡ hit_at query.now seen view.now walked }
+    ensures memo { (seen : Seens) → Remembers view.now.texts (test_of query.now) seen memo.old.items → Remembers view.now.texts (test_of query.now) (seen_after query.now.unique seen (option_map command_seen result)) memo.new.items }
     ensures long { length memo.new.items ≡ length view.now.texts }
     ensures steps { steps.new ≤ steps.old + passing query.now view.now (walked ∷ []) }
     ensures one { steps.new ≤ steps.old + 1 }
     ensures known { IsKnown memo.old.items → IsKnown memo.new.items × (steps.new ≡ steps.old) }
 {
     if !scope.has(&walked.numbers) {
-        return Ok(None);
+        return None;
     }
     if is_miss(memo, walked.numbers.command as usize) {
-        return Ok(None);
+        return None;
     }
     let command = view.text(walked.numbers.command);
-    if !matches(
-        memo,
-        alloc,
-        walked.numbers.command,
-        command,
-        matching,
-        view,
-        steps,
-    )? {
-        return Ok(None);
+    if !matches(memo, walked.numbers.command, command, matching, view, steps) {
+        return None;
     }
     let h = match view.get(walked.id) {
         Some(h) => h,
         None => unreachable!(),
     };
     see(memo, walked.numbers.command, view, query);
-    Ok(Some(h))
+    Some(h)
 }

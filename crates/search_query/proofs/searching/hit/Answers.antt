@@ -35,18 +35,18 @@ pub unreachable-requires : goal.unreachable-requires
 unreachable-requires c =
     no_command (command_of c.args.view.now.texts c.args.walked.id c.requires.row.creation) (ap (option_map command_seen) (sym c.in-None.is) ∙ c.get.ensures ∙ row_shown c.args.view.now c.args.walked c.requires.row)
 
-pub returns-then-not-branch-clause-hit : goal.returns-then-not-branch-clause-hit
-returns-then-not-branch-clause-hit c = λ seen rem.
+pub returns-then-not-matches-clause-hit : goal.returns-then-not-matches-clause-hit
+returns-then-not-matches-clause-hit c = λ seen rem.
     let rem1 = by_wanted c.args.view.now.texts c.args.matching.now _ seen c.args.memo.now.items c.requires.matching rem in
     let h : HistoryRecord = command_of c.args.view.now.texts c.args.walked.id c.requires.row.creation in
     let shown = row_shown c.args.view.now c.args.walked c.requires.row in
     let text : c.text-command.result.now ≡ h.command = same_command c.args.view.now c.args.walked c.requires.row c.text-command.result.now c.text-command.ensures h shown in
-    let is = c.in_ok-matches.ensures.matches seen rem1 in
+    let is = c.matches.ensures.matches seen rem1 in
     let same = ap (λ (w : Wanted). matches_by w.mode w.text c.text-command.result.now && not (seen c.text-command.result.now)) c.requires.matching in
-    no_match c.args.query.now c.args.view.now c.args.walked seen h shown (ap (λ (t : List ℕ). test_of c.args.query.now t && not (seen t)) (sym text) ∙ sym same ∙ sym is ∙ c.if-not-branch.true)
+    no_match c.args.query.now c.args.view.now c.args.walked seen h shown (ap (λ (t : List ℕ). test_of c.args.query.now t && not (seen t)) (sym text) ∙ sym same ∙ sym is ∙ c.if-not-matches.true)
 
-pub returns-then-not-branch-clause-memo : goal.returns-then-not-branch-clause-memo
-returns-then-not-branch-clause-memo c = λ seen rem.
+pub returns-then-not-matches-clause-memo : goal.returns-then-not-matches-clause-memo
+returns-then-not-matches-clause-memo c = λ seen rem.
     let rem1 = by_wanted c.args.view.now.texts c.args.matching.now _ seen c.args.memo.now.items c.requires.matching rem in
     subst (λ (w : Wanted). Remembers c.args.view.now.texts (matches_by w.mode w.text) seen c.matches.new.memo.items) c.requires.matching (c.matches.ensures.memo seen rem1)
 
@@ -58,10 +58,10 @@ returns-clause-hit c = λ seen rem.
     let rem1 = by_wanted c.args.view.now.texts c.args.matching.now _ seen c.args.memo.now.items c.requires.matching rem in
     let shown = sym c.get.ensures ∙ ap (option_map command_seen) c.in-Some.is in
     let text : c.text-command.result.now ≡ c.in-Some.h.command.now = same_command c.args.view.now c.args.walked c.requires.row c.text-command.result.now c.text-command.ensures (command_seen c.in-Some.h) shown in
-    let is = c.in_ok-matches.ensures.matches seen rem1 in
+    let is = c.matches.ensures.matches seen rem1 in
     let same = ap (λ (w : Wanted). matches_by w.mode w.text c.text-command.result.now && not (seen c.text-command.result.now)) c.requires.matching in
     is_hit c.args.query.now c.args.view.now c.args.walked seen (command_seen c.in-Some.h) shown (sym (scope_of c.args.query.now c.args.view.now c.args.walked c.args.scope.now c.requires.row c.requires.scope (command_seen c.in-Some.h) shown) ∙ sym c.has.ensures ∙ c.if-not-has.false)
-    (ap (λ (t : List ℕ). test_of c.args.query.now t && not (seen t)) (sym text) ∙ sym same ∙ sym is ∙ c.if-not-branch.false)
+    (ap (λ (t : List ℕ). test_of c.args.query.now t && not (seen t)) (sym text) ∙ sym same ∙ sym is ∙ c.if-not-matches.false)
 
 pub returns-clause-memo : goal.returns-clause-memo
 returns-clause-memo c = λ seen rem.
@@ -82,14 +82,8 @@ returns-clause-steps c =
     let few = c.matches.ensures.steps in
     omega (arith, one, few)
 
-pub returns-then-not-branch-clause-steps : goal.returns-then-not-branch-clause-steps
-returns-then-not-branch-clause-steps c =
-    let one = one_passes c.args.query.now c.args.view.now c.args.walked c.args.scope.now c.requires.row c.requires.scope (sym c.has.ensures ∙ c.if-not-has.false) in
-    let few = c.matches.ensures.steps in
-    omega (arith, one, few)
-
-pub returns-in_err-matches-clause-steps : goal.returns-in_err-matches-clause-steps
-returns-in_err-matches-clause-steps c =
+pub returns-then-not-matches-clause-steps : goal.returns-then-not-matches-clause-steps
+returns-then-not-matches-clause-steps c =
     let one = one_passes c.args.query.now c.args.view.now c.args.walked c.args.scope.now c.requires.row c.requires.scope (sym c.has.ensures ∙ c.if-not-has.false) in
     let few = c.matches.ensures.steps in
     omega (arith, one, few)

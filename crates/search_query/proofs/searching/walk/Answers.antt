@@ -12,7 +12,7 @@ use Rattle.definitions.specs.Journal.{HistoryRecord}
 use Rattle.search_query.proofs.Walks.{begins_walk, filled, passes_over, leaves_out, takes, ends, breaks, tested, tested_so_far}
 use Rattle.search_query.proofs.Bounds.{begins_bounded, bounded_on, bounded_tests, stops, known_on}
 use Rattle.search_query.proofs.searching.walk.Goals as goal
-use Rattle.search_query.proofs.searching.walk.Goals.{in-None, in-Some+then-len-query, in-Some+else-len-query+in-Some-one_fewer+in_ok-found+in-Some-found+else-skip-gt0+in_ok-take+then-not-branch}
+use Rattle.search_query.proofs.searching.walk.Goals.{in-None, in-Some+then-len-query, in-Some+else-len-query+in-Some-one_fewer+in-Some-found+else-skip-gt0+in_ok-take+then-not-branch}
 
 pub loop-walked-init : goal.loop-walked-init
 loop-walked-init c = (
@@ -25,28 +25,28 @@ loop-walked-init c = (
 pub loop-walked-preserved-then-skip-gt0 : goal.loop-walked-preserved-then-skip-gt0
 loop-walked-preserved-then-skip-gt0 c =
     let way = subst (λ (ws : List Walked). IsOnWay c.args.query.now c.args.view.now (walked_in c.args.view.now.order) ws c.loop-walked.memo.items c.loop-walked.hits.items c.loop-walked.bytes c.loop-walked.skip c.args.steps.now c.loop-walked.steps) c.in-Some.ensures.steps c.loop-walked.invariant.0 in (
-      leaves_out c.args.query.now c.args.view.now (walked_in c.args.view.now.order) c.args.steps.now c.in-Some.walked (command_seen c.in-Some-found.h) (walked_in c.next.new.self.inner) c.loop-walked.memo.items c.hit.new.memo.items c.loop-walked.hits.items c.loop-walked.bytes c.loop-walked.skip c.loop-walked.steps c.hit.new.steps
-          way (sym (c.in_ok-found.ensures.hit way.seen way.remembers) ∙ ap (option_map command_seen) c.in-Some-found.is) c.if-skip-gt0.true (subst (λ (o : Option HistoryRecord). Remembers c.args.view.now.texts (test_of c.args.query.now) (seen_after c.args.query.now.unique way.seen o) c.hit.new.memo.items) (ap (option_map command_seen) c.in-Some-found.is) (c.in_ok-found.ensures.memo way.seen way.remembers)) c.hit.ensures.long c.hit.ensures.steps,
-      bounded_on c.args.steps.now c.loop-walked.steps c.hit.new.steps c.args.most c.loop-walked.left c.in-Some-one_fewer.fewer c.loop-walked.invariant.1 (subst (λ (o : Option (Option ℕ)). IsOneFewer c.loop-walked.left o) c.in-Some-one_fewer.is c.one_fewer.ensures) c.hit.ensures.one,
-      known_on c.args.memo.items c.loop-walked.memo.items c.hit.new.memo.items c.args.steps.now c.loop-walked.steps c.hit.new.steps c.loop-walked.invariant.2 c.hit.ensures.known,
+      leaves_out c.args.query.now c.args.view.now (walked_in c.args.view.now.order) c.args.steps.now c.in-Some.walked (command_seen c.in-Some-found.h) (walked_in c.next.new.self.inner) c.loop-walked.memo.items c.hit-found.new.memo.items c.loop-walked.hits.items c.loop-walked.bytes c.loop-walked.skip c.loop-walked.steps c.hit-found.new.steps
+          way (sym (c.hit-found.ensures.hit way.seen way.remembers) ∙ ap (option_map command_seen) c.in-Some-found.is) c.if-skip-gt0.true (subst (λ (o : Option HistoryRecord). Remembers c.args.view.now.texts (test_of c.args.query.now) (seen_after c.args.query.now.unique way.seen o) c.hit-found.new.memo.items) (ap (option_map command_seen) c.in-Some-found.is) (c.hit-found.ensures.memo way.seen way.remembers)) c.hit-found.ensures.long c.hit-found.ensures.steps,
+      bounded_on c.args.steps.now c.loop-walked.steps c.hit-found.new.steps c.args.most c.loop-walked.left c.in-Some-one_fewer.fewer c.loop-walked.invariant.1 (subst (λ (o : Option (Option ℕ)). IsOneFewer c.loop-walked.left o) c.in-Some-one_fewer.is c.one_fewer.ensures) c.hit-found.ensures.one,
+      known_on c.args.memo.items c.loop-walked.memo.items c.hit-found.new.memo.items c.args.steps.now c.loop-walked.steps c.hit-found.new.steps c.loop-walked.invariant.2 c.hit-found.ensures.known,
     )
 
 pub loop-walked-preserved-else-not-branch : goal.loop-walked-preserved-else-not-branch
 loop-walked-preserved-else-not-branch c =
     let way = subst (λ (ws : List Walked). IsOnWay c.args.query.now c.args.view.now (walked_in c.args.view.now.order) ws c.loop-walked.memo.items c.loop-walked.hits.items c.loop-walked.bytes c.loop-walked.skip c.args.steps.now c.loop-walked.steps) c.in-Some.ensures.steps c.loop-walked.invariant.0 in (
-      takes c.args.query.now c.args.view.now (walked_in c.args.view.now.order) c.args.steps.now c.in-Some.walked c.in-Some-found.h (walked_in c.next.new.self.inner) c.loop-walked.memo.items c.hit.new.memo.items c.loop-walked.hits.items c.take.new.hits.items c.loop-walked.bytes c.take.new.bytes c.loop-walked.skip c.loop-walked.steps c.hit.new.steps
-          way (sym (c.in_ok-found.ensures.hit way.seen way.remembers) ∙ ap (option_map command_seen) c.in-Some-found.is) c.if-skip-gt0.false (c.in_ok-take.ensures.taken c.if-not-branch.false) c.in_ok-take.ensures.bytes c.in_ok-take.ensures.fits (subst (λ (o : Option HistoryRecord). Remembers c.args.view.now.texts (test_of c.args.query.now) (seen_after c.args.query.now.unique way.seen o) c.hit.new.memo.items) (ap (option_map command_seen) c.in-Some-found.is) (c.in_ok-found.ensures.memo way.seen way.remembers)) c.hit.ensures.long c.hit.ensures.steps,
-      bounded_on c.args.steps.now c.loop-walked.steps c.hit.new.steps c.args.most c.loop-walked.left c.in-Some-one_fewer.fewer c.loop-walked.invariant.1 (subst (λ (o : Option (Option ℕ)). IsOneFewer c.loop-walked.left o) c.in-Some-one_fewer.is c.one_fewer.ensures) c.hit.ensures.one,
-      known_on c.args.memo.items c.loop-walked.memo.items c.hit.new.memo.items c.args.steps.now c.loop-walked.steps c.hit.new.steps c.loop-walked.invariant.2 c.hit.ensures.known,
+      takes c.args.query.now c.args.view.now (walked_in c.args.view.now.order) c.args.steps.now c.in-Some.walked c.in-Some-found.h (walked_in c.next.new.self.inner) c.loop-walked.memo.items c.hit-found.new.memo.items c.loop-walked.hits.items c.take.new.hits.items c.loop-walked.bytes c.take.new.bytes c.loop-walked.skip c.loop-walked.steps c.hit-found.new.steps
+          way (sym (c.hit-found.ensures.hit way.seen way.remembers) ∙ ap (option_map command_seen) c.in-Some-found.is) c.if-skip-gt0.false (c.in_ok-take.ensures.taken c.if-not-branch.false) c.in_ok-take.ensures.bytes c.in_ok-take.ensures.fits (subst (λ (o : Option HistoryRecord). Remembers c.args.view.now.texts (test_of c.args.query.now) (seen_after c.args.query.now.unique way.seen o) c.hit-found.new.memo.items) (ap (option_map command_seen) c.in-Some-found.is) (c.hit-found.ensures.memo way.seen way.remembers)) c.hit-found.ensures.long c.hit-found.ensures.steps,
+      bounded_on c.args.steps.now c.loop-walked.steps c.hit-found.new.steps c.args.most c.loop-walked.left c.in-Some-one_fewer.fewer c.loop-walked.invariant.1 (subst (λ (o : Option (Option ℕ)). IsOneFewer c.loop-walked.left o) c.in-Some-one_fewer.is c.one_fewer.ensures) c.hit-found.ensures.one,
+      known_on c.args.memo.items c.loop-walked.memo.items c.hit-found.new.memo.items c.args.steps.now c.loop-walked.steps c.hit-found.new.steps c.loop-walked.invariant.2 c.hit-found.ensures.known,
     )
 
 pub loop-walked-preserved : goal.loop-walked-preserved
 loop-walked-preserved c =
     let way = subst (λ (ws : List Walked). IsOnWay c.args.query.now c.args.view.now (walked_in c.args.view.now.order) ws c.loop-walked.memo.items c.loop-walked.hits.items c.loop-walked.bytes c.loop-walked.skip c.args.steps.now c.loop-walked.steps) c.in-Some.ensures.steps c.loop-walked.invariant.0 in (
-      passes_over c.args.query.now c.args.view.now (walked_in c.args.view.now.order) c.args.steps.now c.in-Some.walked (walked_in c.next.new.self.inner) c.loop-walked.memo.items c.hit.new.memo.items c.loop-walked.hits.items c.loop-walked.bytes c.loop-walked.skip c.loop-walked.steps c.hit.new.steps
-          way (sym (c.in_ok-found.ensures.hit way.seen way.remembers) ∙ ap (option_map command_seen) c.in_default-found.is) (subst (λ (o : Option HistoryRecord). Remembers c.args.view.now.texts (test_of c.args.query.now) (seen_after c.args.query.now.unique way.seen o) c.hit.new.memo.items) (ap (option_map command_seen) c.in_default-found.is) (c.in_ok-found.ensures.memo way.seen way.remembers)) c.hit.ensures.long c.hit.ensures.steps,
-      bounded_on c.args.steps.now c.loop-walked.steps c.hit.new.steps c.args.most c.loop-walked.left c.in-Some-one_fewer.fewer c.loop-walked.invariant.1 (subst (λ (o : Option (Option ℕ)). IsOneFewer c.loop-walked.left o) c.in-Some-one_fewer.is c.one_fewer.ensures) c.hit.ensures.one,
-      known_on c.args.memo.items c.loop-walked.memo.items c.hit.new.memo.items c.args.steps.now c.loop-walked.steps c.hit.new.steps c.loop-walked.invariant.2 c.hit.ensures.known,
+      passes_over c.args.query.now c.args.view.now (walked_in c.args.view.now.order) c.args.steps.now c.in-Some.walked (walked_in c.next.new.self.inner) c.loop-walked.memo.items c.hit-found.new.memo.items c.loop-walked.hits.items c.loop-walked.bytes c.loop-walked.skip c.loop-walked.steps c.hit-found.new.steps
+          way (sym (c.hit-found.ensures.hit way.seen way.remembers) ∙ ap (option_map command_seen) c.in_default-found.is) (subst (λ (o : Option HistoryRecord). Remembers c.args.view.now.texts (test_of c.args.query.now) (seen_after c.args.query.now.unique way.seen o) c.hit-found.new.memo.items) (ap (option_map command_seen) c.in_default-found.is) (c.hit-found.ensures.memo way.seen way.remembers)) c.hit-found.ensures.long c.hit-found.ensures.steps,
+      bounded_on c.args.steps.now c.loop-walked.steps c.hit-found.new.steps c.args.most c.loop-walked.left c.in-Some-one_fewer.fewer c.loop-walked.invariant.1 (subst (λ (o : Option (Option ℕ)). IsOneFewer c.loop-walked.left o) c.in-Some-one_fewer.is c.one_fewer.ensures) c.hit-found.ensures.one,
+      known_on c.args.memo.items c.loop-walked.memo.items c.hit-found.new.memo.items c.args.steps.now c.loop-walked.steps c.hit-found.new.steps c.loop-walked.invariant.2 c.hit-found.ensures.known,
     )
 
 pub returns-clause-page : goal.returns-clause-page
@@ -59,11 +59,11 @@ returns-clause-page c = elim c.match-next.branch [
       let way = subst (λ (ws : List Walked). IsOnWay c.args.query.now c.args.view.now (walked_in c.args.view.now.order) ws c.loop-walked.memo.items c.loop-walked.hits.items c.loop-walked.bytes c.loop-walked.skip c.args.steps.now c.loop-walked.steps) w.in-Some.ensures.steps c.loop-walked.invariant.0 in
       let page = filled c.args.query.now c.args.view.now c.args.steps.now (w.in-Some.walked ∷ walked_in c.next.new.self.inner) c.loop-walked.memo.items c.loop-walked.hits.items c.loop-walked.bytes c.loop-walked.skip c.loop-walked.steps way (omega (arith, w.len.ensures, w.if-len-query.true)) in
       subst (λ (v : Vec ShownCommand Global). IsAnswerOf c.args.query.now (newest_of c.args.view.now) (seen_of v.items)) (sym w.hits-is) page
-  | in-Some+else-len-query+in-Some-one_fewer+in_ok-found+in-Some-found+else-skip-gt0+in_ok-take+then-not-branch w ↦
+  | in-Some+else-len-query+in-Some-one_fewer+in-Some-found+else-skip-gt0+in_ok-take+then-not-branch w ↦
       let way = subst (λ (ws : List Walked). IsOnWay c.args.query.now c.args.view.now (walked_in c.args.view.now.order) ws c.loop-walked.memo.items c.loop-walked.hits.items c.loop-walked.bytes c.loop-walked.skip c.args.steps.now c.loop-walked.steps) w.in-Some.ensures.steps c.loop-walked.invariant.0 in
       let full = w.in_ok-take.ensures.full w.if-not-branch.true in
       let page = breaks c.args.query.now c.args.view.now c.args.steps.now w.in-Some.walked w.in-Some-found.h (walked_in c.next.new.self.inner) c.loop-walked.memo.items c.loop-walked.hits.items c.loop-walked.bytes c.loop-walked.skip c.loop-walked.steps way
-      (sym (w.in_ok-found.ensures.hit way.seen way.remembers) ∙ ap (option_map command_seen) w.in-Some-found.is) w.if-skip-gt0.false full.1 in
+      (sym (w.hit-found.ensures.hit way.seen way.remembers) ∙ ap (option_map command_seen) w.in-Some-found.is) w.if-skip-gt0.false full.1 in
       subst (λ (hs : List ShownCommand). IsAnswerOf c.args.query.now (newest_of c.args.view.now) (seen_of hs)) (sym (ap (λ (v : Vec ShownCommand Global). v.items) w.hits-is ∙ full.0)) page
 ]
 
@@ -71,7 +71,7 @@ pub returns-in_err-take-clause-steps : goal.returns-in_err-take-clause-steps
 returns-in_err-take-clause-steps c =
     let way = subst (λ (ws : List Walked). IsOnWay c.args.query.now c.args.view.now (walked_in c.args.view.now.order) ws c.loop-walked.memo.items c.loop-walked.hits.items c.loop-walked.bytes c.loop-walked.skip c.args.steps.now c.loop-walked.steps) c.in-Some.ensures.steps c.loop-walked.invariant.0 in
     let most = tested c.args.query.now c.args.view.now c.in-Some.walked (walked_in c.next.new.self.inner) c.loop-walked.memo.items c.loop-walked.hits.items c.loop-walked.bytes c.loop-walked.skip c.args.steps.now c.loop-walked.steps way in
-    let few = c.hit.ensures.steps in
+    let few = c.hit-found.ensures.steps in
     omega arith
 
 pub returns-clause-steps : goal.returns-clause-steps
@@ -85,26 +85,19 @@ returns-clause-steps c = elim c.match-next.branch [
       let so_far = tested_so_far c.args.query.now c.args.view.now (w.in-Some.walked ∷ walked_in c.next.new.self.inner) c.loop-walked.memo.items c.loop-walked.hits.items c.loop-walked.bytes c.loop-walked.skip c.args.steps.now c.loop-walked.steps way in
       let is = w.steps-is in
       omega arith
-  | in-Some+else-len-query+in-Some-one_fewer+in_ok-found+in-Some-found+else-skip-gt0+in_ok-take+then-not-branch w ↦
+  | in-Some+else-len-query+in-Some-one_fewer+in-Some-found+else-skip-gt0+in_ok-take+then-not-branch w ↦
       let way = subst (λ (ws : List Walked). IsOnWay c.args.query.now c.args.view.now (walked_in c.args.view.now.order) ws c.loop-walked.memo.items c.loop-walked.hits.items c.loop-walked.bytes c.loop-walked.skip c.args.steps.now c.loop-walked.steps) w.in-Some.ensures.steps c.loop-walked.invariant.0 in
       let most = tested c.args.query.now c.args.view.now w.in-Some.walked (walked_in c.next.new.self.inner) c.loop-walked.memo.items c.loop-walked.hits.items c.loop-walked.bytes c.loop-walked.skip c.args.steps.now c.loop-walked.steps way in
-      let few = w.hit.ensures.steps in
+      let few = w.hit-found.ensures.steps in
       let is = w.steps-is in
       omega arith
 ]
 
-pub returns-in_err-found-clause-steps : goal.returns-in_err-found-clause-steps
-returns-in_err-found-clause-steps c =
-    let way = subst (λ (ws : List Walked). IsOnWay c.args.query.now c.args.view.now (walked_in c.args.view.now.order) ws c.loop-walked.memo.items c.loop-walked.hits.items c.loop-walked.bytes c.loop-walked.skip c.args.steps.now c.loop-walked.steps) c.in-Some.ensures.steps c.loop-walked.invariant.0 in
-    let most = tested c.args.query.now c.args.view.now c.in-Some.walked (walked_in c.next.new.self.inner) c.loop-walked.memo.items c.loop-walked.hits.items c.loop-walked.bytes c.loop-walked.skip c.args.steps.now c.loop-walked.steps way in
-    let few = c.hit.ensures.steps in
-    omega arith
+pub hit-found-requires-clause-row : goal.hit-found-requires-clause-row
+hit-found-requires-clause-row c = let way = subst (λ (ws : List Walked). IsOnWay c.args.query.now c.args.view.now (walked_in c.args.view.now.order) ws c.loop-walked.memo.items c.loop-walked.hits.items c.loop-walked.bytes c.loop-walked.skip c.args.steps.now c.loop-walked.steps) c.in-Some.ensures.steps c.loop-walked.invariant.0 in way.rows.0
 
-pub hit-requires-clause-row : goal.hit-requires-clause-row
-hit-requires-clause-row c = let way = subst (λ (ws : List Walked). IsOnWay c.args.query.now c.args.view.now (walked_in c.args.view.now.order) ws c.loop-walked.memo.items c.loop-walked.hits.items c.loop-walked.bytes c.loop-walked.skip c.args.steps.now c.loop-walked.steps) c.in-Some.ensures.steps c.loop-walked.invariant.0 in way.rows.0
-
-pub hit-requires-clause-long : goal.hit-requires-clause-long
-hit-requires-clause-long c = c.loop-walked.invariant.0.long
+pub hit-found-requires-clause-long : goal.hit-found-requires-clause-long
+hit-found-requires-clause-long c = c.loop-walked.invariant.0.long
 
 pub take-requires-clause-bytes : goal.take-requires-clause-bytes
 take-requires-clause-bytes c = c.loop-walked.invariant.0.weighed
@@ -112,17 +105,11 @@ take-requires-clause-bytes c = c.loop-walked.invariant.0.weighed
 pub take-requires-clause-fits : goal.take-requires-clause-fits
 take-requires-clause-fits c = c.loop-walked.invariant.0.fits
 
-pub returns-in_err-found-clause-most : goal.returns-in_err-found-clause-most
-returns-in_err-found-clause-most c = bounded_tests c.args.steps.now c.hit.new.steps c.args.most c.in-Some-one_fewer.fewer (bounded_on c.args.steps.now c.loop-walked.steps c.hit.new.steps c.args.most c.loop-walked.left c.in-Some-one_fewer.fewer c.loop-walked.invariant.1 (subst (λ (o : Option (Option ℕ)). IsOneFewer c.loop-walked.left o) c.in-Some-one_fewer.is c.one_fewer.ensures) c.hit.ensures.one)
-
-pub returns-in_err-found-clause-known : goal.returns-in_err-found-clause-known
-returns-in_err-found-clause-known c = λ k. let both = known_on c.args.memo.items c.loop-walked.memo.items c.hit.new.memo.items c.args.steps.now c.loop-walked.steps c.hit.new.steps c.loop-walked.invariant.2 c.hit.ensures.known k in both.1
-
 pub returns-in_err-take-clause-most : goal.returns-in_err-take-clause-most
-returns-in_err-take-clause-most c = bounded_tests c.args.steps.now c.hit.new.steps c.args.most c.in-Some-one_fewer.fewer (bounded_on c.args.steps.now c.loop-walked.steps c.hit.new.steps c.args.most c.loop-walked.left c.in-Some-one_fewer.fewer c.loop-walked.invariant.1 (subst (λ (o : Option (Option ℕ)). IsOneFewer c.loop-walked.left o) c.in-Some-one_fewer.is c.one_fewer.ensures) c.hit.ensures.one)
+returns-in_err-take-clause-most c = bounded_tests c.args.steps.now c.hit-found.new.steps c.args.most c.in-Some-one_fewer.fewer (bounded_on c.args.steps.now c.loop-walked.steps c.hit-found.new.steps c.args.most c.loop-walked.left c.in-Some-one_fewer.fewer c.loop-walked.invariant.1 (subst (λ (o : Option (Option ℕ)). IsOneFewer c.loop-walked.left o) c.in-Some-one_fewer.is c.one_fewer.ensures) c.hit-found.ensures.one)
 
 pub returns-in_err-take-clause-known : goal.returns-in_err-take-clause-known
-returns-in_err-take-clause-known c = λ k. let both = known_on c.args.memo.items c.loop-walked.memo.items c.hit.new.memo.items c.args.steps.now c.loop-walked.steps c.hit.new.steps c.loop-walked.invariant.2 c.hit.ensures.known k in both.1
+returns-in_err-take-clause-known c = λ k. let both = known_on c.args.memo.items c.loop-walked.memo.items c.hit-found.new.memo.items c.args.steps.now c.loop-walked.steps c.hit-found.new.steps c.loop-walked.invariant.2 c.hit-found.ensures.known k in both.1
 
 pub returns-in_default-clause-most : goal.returns-in_default-clause-most
 returns-in_default-clause-most c = bounded_tests c.args.steps.now c.loop-walked.steps c.args.most c.loop-walked.left c.loop-walked.invariant.1
@@ -141,12 +128,12 @@ pub returns-clause-most : goal.returns-clause-most
 returns-clause-most c = elim c.match-next.branch [
   | in-None w ↦ subst (λ (k : ℕ). IfSome c.args.most (λ n. k ≤ c.args.steps.now + n)) (sym w.steps-is) (bounded_tests c.args.steps.now c.loop-walked.steps c.args.most c.loop-walked.left c.loop-walked.invariant.1)
   | in-Some+then-len-query w ↦ subst (λ (k : ℕ). IfSome c.args.most (λ n. k ≤ c.args.steps.now + n)) (sym w.steps-is) (bounded_tests c.args.steps.now c.loop-walked.steps c.args.most c.loop-walked.left c.loop-walked.invariant.1)
-  | in-Some+else-len-query+in-Some-one_fewer+in_ok-found+in-Some-found+else-skip-gt0+in_ok-take+then-not-branch w ↦ subst (λ (k : ℕ). IfSome c.args.most (λ n. k ≤ c.args.steps.now + n)) (sym w.steps-is) (bounded_tests c.args.steps.now w.hit.new.steps c.args.most w.in-Some-one_fewer.fewer (bounded_on c.args.steps.now c.loop-walked.steps w.hit.new.steps c.args.most c.loop-walked.left w.in-Some-one_fewer.fewer c.loop-walked.invariant.1 (subst (λ (o : Option (Option ℕ)). IsOneFewer c.loop-walked.left o) w.in-Some-one_fewer.is w.one_fewer.ensures) w.hit.ensures.one))
+  | in-Some+else-len-query+in-Some-one_fewer+in-Some-found+else-skip-gt0+in_ok-take+then-not-branch w ↦ subst (λ (k : ℕ). IfSome c.args.most (λ n. k ≤ c.args.steps.now + n)) (sym w.steps-is) (bounded_tests c.args.steps.now w.hit-found.new.steps c.args.most w.in-Some-one_fewer.fewer (bounded_on c.args.steps.now c.loop-walked.steps w.hit-found.new.steps c.args.most c.loop-walked.left w.in-Some-one_fewer.fewer c.loop-walked.invariant.1 (subst (λ (o : Option (Option ℕ)). IsOneFewer c.loop-walked.left o) w.in-Some-one_fewer.is w.one_fewer.ensures) w.hit-found.ensures.one))
 ]
 
 pub returns-clause-known : goal.returns-clause-known
 returns-clause-known c = elim c.match-next.branch [
   | in-None w ↦ λ k. let both = c.loop-walked.invariant.2 k in w.steps-is ∙ both.1
   | in-Some+then-len-query w ↦ λ k. let both = c.loop-walked.invariant.2 k in w.steps-is ∙ both.1
-  | in-Some+else-len-query+in-Some-one_fewer+in_ok-found+in-Some-found+else-skip-gt0+in_ok-take+then-not-branch w ↦ λ k. let both = known_on c.args.memo.items c.loop-walked.memo.items w.hit.new.memo.items c.args.steps.now c.loop-walked.steps w.hit.new.steps c.loop-walked.invariant.2 w.hit.ensures.known k in w.steps-is ∙ both.1
+  | in-Some+else-len-query+in-Some-one_fewer+in-Some-found+else-skip-gt0+in_ok-take+then-not-branch w ↦ λ k. let both = known_on c.args.memo.items c.loop-walked.memo.items w.hit-found.new.memo.items c.args.steps.now c.loop-walked.steps w.hit-found.new.steps c.loop-walked.invariant.2 w.hit-found.ensures.known k in w.steps-is ∙ both.1
 ]

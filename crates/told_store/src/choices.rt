@@ -22,6 +22,27 @@ impl<'a, D: Disk> Choice for First<'a, D> {
     ghost fits = { λ c note. IsFirst c.store.now note };
 }
 
+/// The first note of a store that was opened on a disk: with what the disk was before.
+pub struct Opened<'a, D: Disk> {
+    pub disk_was: &'a Noted<D>,
+    pub store: &'a Store<D>,
+}
+
+impl<'a, D: Disk> Drop for Opened<'a, D> {
+    fn drop(self) {
+        let Self {
+            disk_was: _,
+            store: _,
+        } = self;
+    }
+}
+
+impl<'a, D: Disk> Choice for Opened<'a, D> {
+    ghost use Rattle.told_store.specs.Opening.{OpensTold};
+
+    ghost fits = { λ c note. OpensTold (D.disk c.disk_was.now.value) c.store.now note };
+}
+
 /// The note after the store was asked for its front alone.
 #[derive(Drop)]
 pub struct Rested<'a> {

@@ -8,6 +8,7 @@
 #![tactic(auto)]
 
 mod choices;
+mod opening;
 mod told;
 
 pub use told::ToldStore;

@@ -53,6 +53,7 @@ fn a_call_is_told(rt: HostRuntime) -> Result<(), Fail> {
     let status = store.ask(alloc, CALLER, &Call::Status, &mut rand, &mut clock);
     assert!(rt; status.front == 1);
     assert!(rt; store.front() == 1);
+    assert!(rt; store.entry_count() == 1);
     assert!(rt; store.into_store().front() == 1);
     Ok(())
 }

@@ -7,7 +7,7 @@ ghost use Rattle.model_words.specs.Seen.{call_seen, reply_seen};
 ghost use Rattle.step_rules.specs.Calls.{CallFits};
 ghost use Rattle.call_supplies.specs.Supplies.{supplies};
 ghost use Rattle.store_core.specs.Store.{IsStoreOf};
-ghost use Rattle.told_store.specs.Told.{HasRested, CallTold, HoldsEntries, DoubtsEntries};
+ghost use Rattle.told_store.specs.Told.{IsTold, HasRested, CallTold, HoldsEntries, DoubtsEntries};
 ghost use Rattle.at_edge.specs.Storing.{Tells};
 
 use crate::choices::{Answered, First, Rested};
@@ -21,8 +21,8 @@ use store_core::Store;
 /// A store, and of which journal it is. Contracts see the store and the note.
 #[derive(Drop)]
 pub struct ToldStore<D: Disk> {
-    store: Store<D>,
-    noted: NotedStore,
+    pub(crate) store: Store<D>,
+    pub(crate) noted: NotedStore,
 }
 
 impl<D: Disk> Model for ToldStore<D> {
@@ -41,6 +41,7 @@ impl<D: Disk> ToldStore<D> {
         requires { (journal : List Entry) × (doubt : List Entry) × IsStoreOf store journal doubt }
         ensures store { result.store ≡ store }
         ensures turns { result.note.turns ≡ [] }
+        ensures told { IsTold result.store result.note }
     {
         let noted = NotedStore::chosen(&First { store: &store });
         ToldStore { store, noted }
@@ -58,6 +59,7 @@ impl<D: Disk> ToldStore<D> {
     /// noted; and where entries are in doubt, a crash may or may not leave them behind it. It takes no memory.
     pub fn into_disk(self) -> D
         ensures disk { D.disk result ≡ self.store.log.disk }
+        ensures counted { self.note.state.faults ≡ (D.disk result).faults }
         ensures holds { self.note.state.doubt ≡ [] → Tells (D.disk result) (HoldsEntries self.store.log.host self.note.state.entries) }
         ensures doubts { self.note.state.doubt ≢ [] → Tells (D.disk result) (DoubtsEntries self.store.log.host self.note.state.entries self.note.state.doubt) }
     {
@@ -99,6 +101,13 @@ impl<D: Disk> ToldStore<D> {
         });
         self.noted = noted;
         reply
+    }
+
+    /// How many entries it has, outside of any turn. It takes no memory.
+    pub fn entry_count(&self) -> u64
+        ensures { result ≡ length self.now.note.state.entries }
+    {
+        Store::front(&self.store)
     }
 
     /// The number of entries, in a turn that asks nothing else. It takes no memory.

@@ -1,9 +1,13 @@
-use Rattle.std.proofs.Common.{◌≡◌, [], sym, subst}
+use Rattle.std.proofs.Common.{◌≡◌, [], sym, ap, ◌∙◌, subst}
 use Rattle.std.specs.Prelude.{◌≢◌}
 use Rattle.at_edge.specs.Storing.{DiskSeen, Tells}
 use Rattle.told_store.specs.Told.{ToldSeen, HoldsEntries, DoubtsEntries}
 use Rattle.told_store.proofs.Telling.{holds_entries, doubts_entries}
 use Rattle.told_store.proofs.told.ToldStore.into_disk.Goals as goal
+
+pub returns-clause-counted : goal.returns-clause-counted
+returns-clause-counted g c =
+    subst (λ (t : ToldSeen). t.note.state.faults ≡ (g.D.Disk.disk c.into_disk.result).faults) c.self.view_is (c.self.invariant.counted ∙ sym (ap (λ (d : DiskSeen). d.faults) c.into_disk.ensures))
 
 pub returns-clause-holds : goal.returns-clause-holds
 returns-clause-holds g c =

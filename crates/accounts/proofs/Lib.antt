@@ -1,0 +1,4 @@
+mod Digits
+mod FirstLine
+mod NextLine
+mod Owners

@@ -9,6 +9,7 @@
 
 mod choices;
 mod opening;
+mod pages;
 mod told;
 
 pub use told::ToldStore;

@@ -57,3 +57,17 @@ fn a_call_is_told(rt: HostRuntime) -> Result<(), Fail> {
     assert!(rt; store.into_store().front() == 1);
     Ok(())
 }
+
+#[test]
+fn pages_and_status_are_told(rt: HostRuntime) -> Result<(), Fail> {
+    let alloc = rt.alloc();
+    let mut store = new_store(&rt, alloc)?;
+    assert!(rt; store.take_page(alloc, CALLER, 1, &[]) == Ok(0));
+    let Ok(records) = store.page(alloc, 1, 1, b"history", 0, 100) else {
+        panic!(rt; "no page was read");
+    };
+    assert!(rt; records.is_empty());
+    assert!(rt; store.status(alloc, 1).is_ok());
+    assert!(rt; store.entry_count() == 0);
+    Ok(())
+}

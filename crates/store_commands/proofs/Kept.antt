@@ -1,6 +1,6 @@
 -- What a store that was opened keeps of its disk, and what a command over it comes to.
 use Rattle.std.proofs.Common.{◌≡◌, ℕ, List, [], Option, Some, None, Result, Ok, Err, refl, subst}
-use Rattle.record_rules.specs.Records.{Entry, Event}
+use Rattle.record_rules.specs.Records.{Entry}
 use Rattle.record_rules.specs.Journal.{status}
 use Rattle.log_rules.specs.Opened.{opened_journal}
 use Rattle.view_rules.specs.Answers.{ScopedQuery}
@@ -22,7 +22,7 @@ use Rattle.store_commands.specs.declared.ends.CommandFail.TheVariants as fails
 store_journal : (store : StoreSeen) (journal : List Entry) → store.doubt ≡ None → IsStoreOf store journal [] → HasJournal store.log journal
 store_journal store journal settled is = subst (λ (doubt : Option Batch). LogMeans store.log journal doubt) settled is.log
 
-keeps : (old : DiskSeen) (store : StoreSeen) → (opens : OpensStore old store) → store.doubt ≡ None → KeepsLog store.log.host opens.events old store.log.disk
+pub keeps : (old : DiskSeen) (store : StoreSeen) → (opens : OpensStore old store) → store.doubt ≡ None → KeepsLog store.log.host opens.events old store.log.disk
 keeps old store opens settled = record {
   shown = opens.shown;
   holds = holds_journal store.log store.log.host (opened_journal opens.events) refl (store_journal store (opened_journal opens.events) settled opens.is);

@@ -1,2 +1,4 @@
 pub mod Kept
 pub mod Hits
+pub mod Doubts
+pub mod PipedSession

@@ -1,5 +1,5 @@
 -- What a search finds in a store.
-use Rattle.std.specs.Prelude.{◌≡◌, ℕ, List, Result, Ok, Err, Option, Some, None}
+use Rattle.std.specs.Prelude.{◌≡◌, ℕ, List, Result, Err, Option, Some, None}
 use Rattle.definitions.specs.Journal.{HistoryRecord}
 use Rattle.record_rules.specs.Records.{Entry, Event}
 use Rattle.record_model.specs.declared.ended.History.{History}

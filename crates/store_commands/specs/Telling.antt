@@ -1,5 +1,5 @@
 -- What a store tells of its chains.
-use Rattle.std.specs.Prelude.{◌≡◌, ℕ, List, Result, Ok, Err}
+use Rattle.std.specs.Prelude.{◌≡◌, ℕ, List, Result, Err}
 use Rattle.record_rules.specs.Records.{Event}
 use Rattle.record_rules.specs.Journal.{status}
 use Rattle.log_rules.specs.Opened.{opened_journal}

@@ -1,7 +1,7 @@
 //! How a command over a store ends.
 
 ghost use Rattle.std.specs.Prelude.{◌≡◌};
-ghost use Rattle.store_commands.specs.Ends.{status_of_fail, Prints};
+ghost use Rattle.store_commands.specs.Ends.{status_of_opening, status_of_fail, Prints};
 
 use at_edge::{Sink, WriteFault, write_all};
 use statuses::Status;
@@ -27,14 +27,23 @@ impl CommandFail {
     {
         match self {
             CommandFail::FaultyKeyText => Status::FaultyKeyText,
-            CommandFail::Unopened(OpenFail::NotALog) => Status::WrongDisk,
-            CommandFail::Unopened(OpenFail::OldLog) => Status::OldLog,
-            CommandFail::Unopened(OpenFail::Damaged { .. }) => Status::DamagedLog,
-            CommandFail::Unopened(OpenFail::DiskFault) => Status::DiskFault,
-            CommandFail::Unopened(OpenFail::NoMemory) => Status::NoMemory,
+            CommandFail::Unopened(fail) => status_of_opening(fail),
             CommandFail::SinkFault => Status::SinkFault,
             CommandFail::NoMemory => Status::NoMemory,
         }
+    }
+}
+
+/// What the system is told where no store was opened.
+pub(crate) fn status_of_opening(fail: OpenFail) -> Status
+    ensures { result ≡ status_of_opening fail }
+{
+    match fail {
+        OpenFail::NotALog => Status::WrongDisk,
+        OpenFail::OldLog => Status::OldLog,
+        OpenFail::Damaged { .. } => Status::DamagedLog,
+        OpenFail::DiskFault => Status::DiskFault,
+        OpenFail::NoMemory => Status::NoMemory,
     }
 }
 

@@ -11,11 +11,15 @@
 
 mod ends;
 mod finding;
+mod piping;
 mod telling;
 
 pub use ends::{CommandFail, Told};
 pub use finding::search;
+pub use piping::{PipeFail, Piped, pipe};
 pub use telling::status;
 
+#[cfg(test)]
+mod pipe_tests;
 #[cfg(test)]
 mod tests;

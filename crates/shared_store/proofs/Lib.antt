@@ -1,0 +1,4 @@
+pub mod PassTurns
+pub mod StoreTurns
+pub mod Opening
+pub mod FixedParts

@@ -1,0 +1,4 @@
+pub mod Books
+pub mod Turns
+pub mod Closing
+pub mod Callers

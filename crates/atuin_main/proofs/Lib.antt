@@ -1,4 +1,1 @@
-pub mod FrameParts
-pub mod Turns
-pub mod Sessions
-pub mod Inputs
+mod Fits

@@ -1,3 +1,3 @@
-pub mod Sessions
-pub mod Turns
-pub mod Program
+pub mod Outside
+pub mod Running
+pub mod Folder

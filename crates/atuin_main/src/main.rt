@@ -1,70 +1,42 @@
-//! The program: shell history that is told on standard input and answered on standard output.
+//! The program: a store of shell history in a folder, made, served, searched, told of, and moved over from the old form.
 //!
-//! `main` hands the real outside to `run_once` and ends with its status. `run_once` carries the promise: what is written
-//! is a stated function of what was read, drawn and told by the clock, and each status has its cause. It stands on
-//! `daemon_core` for the answer to one request, and on `at_edge` for the outside. What `main` opens and prints, and what
-//! a real file, clock and random source do, is trusted.
+//! `main` hands the real outside to [`run_once`] and ends with its status. `run_once` carries the promise: what becomes of the
+//! disks, and what is read, written, drawn and told by the clock, is for each command what `commands` and `store_commands` say
+//! of it, and each status has the cause that they name. It stands on `command_words` for the words, on `statuses` for the
+//! numbers, and on `at_edge` for the outside. What `main` opens and prints, and what a real file, clock and random source do,
+//! is trusted.
 #![tactic(auto)]
 
 ghost use Rattle.std.specs.Prelude.{◌≡◌, ◌≢◌};
+ghost use Rattle.statuses.specs.declared.Status.TheVariants as statuses;
 
-mod frames;
-mod session;
+mod folder;
 mod top;
-mod words;
 
-pub use top::{
-    DONE, Ended, FAULTY_FRAME, FAULTY_WORDS, NO_MEMORY, SESSION_LIMIT, SINK_FAULT, SOURCE_FAULT,
-    run_once,
-};
+pub use top::{Ended, run_once};
 
 #[cfg(test)]
 mod tests;
 
-use at_edge::{AbsentDisk, AbsentLink, ReadSource, SystemClock, SystemEntropy, WriteSink};
+use at_edge::{AbsentLink, FileDisk, ReadSource, SystemClock, SystemEntropy, WriteSink};
+use folder::{KeyText, Paths, call_for_a_folder, call_for_a_key};
+use plain_types::NoMemory;
 use rand::rngs::SysRng;
+use statuses::Status;
 use std::io::ErrorKind;
 use std::process::ExitCode;
 use std::thread::Threads;
-use std::{env, io};
+use std::{env, fs, io};
 
 fn main(rt: HostRuntime) -> ExitCode {
-    let status = run(&rt, &rt);
-    if status != DONE {
-        let _ = eprintln!(rt; "{}", reason(status));
+    let status = match words_of(&rt) {
+        Ok(words) => run(&rt, &rt, &words),
+        Err(error) => status_without_words(error.kind()).number(),
+    };
+    if let Some(faulty) = Status::of_number(status).filter(|ended| *ended != Status::Done) {
+        let _ = eprintln!(rt; "{}", faulty.message());
     }
     ExitCode::from(status)
-}
-
-/// The status of the command that the program's words name, over the real outside. The runtime comes twice, since only a
-/// parameter of its own can say that it has threads.
-fn run(rt: &HostRuntime, threads: &(impl Threads + Sync)) -> u8 {
-    let words = match words_of(rt) {
-        Ok(words) => words,
-        Err(error) => return status_without_words(error.kind()),
-    };
-    let Ok(mut source) = ReadSource::new(rt.alloc(), rt.reader()) else {
-        return NO_MEMORY;
-    };
-    let mut sink = WriteSink::new(io::writer(rt));
-    let mut rand = SystemEntropy::new(SysRng::new(rt));
-    let mut clock = SystemClock::new(rt);
-    let mut link = AbsentLink::new();
-    let ended = run_once(
-        threads,
-        rt.alloc(),
-        &words,
-        b"",
-        b"",
-        &mut source,
-        &mut sink,
-        AbsentDisk::new(),
-        AbsentDisk::new(),
-        &mut rand,
-        &mut clock,
-        &mut link,
-    );
-    ended.status
 }
 
 /// The words behind the program's name.
@@ -75,28 +47,64 @@ fn words_of(rt: &HostRuntime) -> io::Result<Vec<String>> {
         .map_err(io::Error::from)
 }
 
-/// The status where the words can't be had: there was no memory for them, or one of them isn't UTF-8.
-fn status_without_words(kind: ErrorKind) -> u8
-    ensures memory { kind ≡ ErrorKind.OutOfMemory → result ≡ 11 }
-    ensures faulty { kind ≢ ErrorKind.OutOfMemory → result ≡ 2 }
+/// The end where the words can't be had: there was no memory for them, or one of them isn't UTF-8.
+fn status_without_words(kind: ErrorKind) -> Status
+    ensures memory { kind ≡ ErrorKind.OutOfMemory → result ≡ Status.NoMemory }
+    ensures faulty { kind ≢ ErrorKind.OutOfMemory → result ≡ Status.FaultyWords }
 {
     match kind {
-        ErrorKind::OutOfMemory => NO_MEMORY,
-        _ => FAULTY_WORDS,
+        ErrorKind::OutOfMemory => Status::NoMemory,
+        _ => Status::FaultyWords,
     }
 }
 
-/// What a status says to a person.
-fn reason(status: u8) -> &'static str {
-    match status {
-        FAULTY_WORDS => "usage: FOLDER pipe",
-        SOURCE_FAULT => "reading standard input failed",
-        SINK_FAULT => "writing standard output failed",
-        NO_MEMORY => "there is not enough memory",
-        FAULTY_FRAME => {
-            "standard input ends inside a frame, or names one of more than 1048576 bytes"
-        }
-        SESSION_LIMIT => "a session has at most 1000000 requests",
-        _ => "the command failed",
+/// The status of the command that the words name, over the real outside. The runtime comes twice, since only a
+/// parameter of its own can say that it has threads.
+fn run(rt: &HostRuntime, threads: &(impl Threads + Sync), words: &[String]) -> u8 {
+    let folder = words.first().map_or("", String::as_str);
+    let Ok(paths) = Paths::within(rt.alloc(), folder) else {
+        return Status::NoMemory.number();
+    };
+    if call_for_a_folder(words) {
+        make_folder(rt, folder, &paths);
+    }
+    let key = if call_for_a_key(words) {
+        KeyText::in_file(rt, &paths.key)
+    } else {
+        KeyText::empty()
+    };
+    let Ok(mut source) = ReadSource::new(rt.alloc(), rt.reader()) else {
+        return Status::NoMemory.number();
+    };
+    let mut sink = WriteSink::new(io::writer(rt));
+    let mut rand = SystemEntropy::new(SysRng::new(rt));
+    let mut clock = SystemClock::new(rt);
+    let mut link = AbsentLink::new();
+    let ended = run_once(
+        threads,
+        rt.alloc(),
+        words,
+        key.as_slice(),
+        b"",
+        &mut source,
+        &mut sink,
+        FileDisk::new(rt, &paths.log),
+        FileDisk::new(rt, &paths.second_log),
+        &mut rand,
+        &mut clock,
+        &mut link,
+    );
+    ended.status
+}
+
+/// Makes the folder, where there is none, and says how a key is made, where there is none. A folder that can't be made is
+/// found out by the disk.
+fn make_folder(rt: &HostRuntime, folder: &str, paths: &Paths) {
+    let _ = fs::create_dir_all(rt, folder);
+    if fs::metadata(rt, paths.key.as_str()).is_err() {
+        let _ = eprintln!(rt;
+            "A key is still to be made: (umask 077; od -An -N32 -tx1 /dev/urandom | tr -d ' \\n' > {})",
+            paths.key
+        );
     }
 }

@@ -1,56 +1,49 @@
-//! Whole sessions over the forms in memory, with their exact bytes. The clock begins at 1,700,000,000 seconds and rises
-//! by one second at each reading, and the random bytes are 00 to 1d.
+//! Whole commands over the forms in memory, with their exact bytes. The clock begins at 1,700,000,000 seconds and rises by one
+//! second at each reading, the random bytes count up from 00, and the key is the bytes 70 to 8f. The sealed texts were computed
+//! apart from this repository's crates.
 
 use super::*;
-use at_edge::{FixedClock, ListEntropy, MemSink, MemSource, SureDisk};
+use at_edge::{FixedClock, ListEntropy, MemDisk, MemSink, MemSource};
 use std::alloc::{AllocError, Global};
 use std::process::Abort;
 use std::test::*;
 use std::thread::Threads;
 
-const START: &[u8] = b"\x00\x00\x00\x0e\x95\x01\xa2ls\xa1/\xa2s1\xa3h:u";
+const KEY: &[u8] = b"707172737475767778797a7b7c7d7e7f808182838485868788898a8b8c8d8e8f\n";
 
-const END: &[u8] =
-    b"\x00\x00\x00\x28\x94\x02\xd9\x20018bcfe5680070018203040506070809\xcd\x03\xe8\x00";
+/// Behind the eight bytes that tell a log's form: host 1, eight zero bytes, an open gate, and the length of the first body.
+const HOST: &[u8] = b"\0\0\0\0\0\0\0\0\0\0\0\0\0\0\0\x01\0\0\0\0\0\0\0\0";
 
-const SEARCH: &[u8] = b"\x00\x00\x00\x09\x98\x04\x00\x00\xa0\xa0\x00\x00\x0a";
+/// An open gate and a body: `ls` begins in `/`, in session `s1`, on `h:u`.
+const STARTED: &[u8] =
+    b"\x01\0\0\0\x35\0\0\0\x01\x01\x01\x8b\xcf\xe5\x68\x00\x70\x01\x82\x03\x04\x05\x06\x07\x08\x09\x17\x97\x9c\xfe\x36\x2a\0\0\0\0\0\x02ls\0\0\0\x01/\0\0\0\x02s1\0\0\0\x03h:u";
 
-const END_OF_ANOTHER: &[u8] =
-    b"\x00\x00\x00\x28\x94\x02\xd9\x20ffffffffffffffffffffffffffffffff\xcd\x03\xe8\x00";
+const STARTED_DIGEST: &[u8] = b"\xf7\xdf\x43\x2f\x11\xae\x16\x44\xa5\xc2\xb6\x25\xe7\x4d\xcf\x75";
 
-const BEGUN: &[u8] = b"\x00\x00\x00\x25\x93\x00\x01\xd9\x20018bcfe5680070018203040506070809";
+/// An open gate and a body up to its sealed texts: it ends.
+const ENDED: &[u8] =
+    b"\x01\0\0\x02\x22\0\0\0\x01\x02\x01\x01\x8b\xcf\xe5\x68\x00\x70\x01\x82\x03\x04\x05\x06\x07\x08\x09\x01\x8b\xcf\xe5\x6b\xe8\x7a\x0b\x8c\x0d\x0e\x0f\x10\x11\x12\x13\0\0\0\0\0\0\0\0\0\0\0\0\0\0\0\0\0\0\0\0\0\0\0\x01\0\0\0\0\x17\x97\x9c\xfe\x71\xc4\xca\0\0\0\0\x02v0\0\0\0\x07history";
 
-const SEARCH_PAST_A_TEXT: &[u8] = b"\x00\x00\x00\x0a\x98\x04\x00\x00\xa1x\xa0\x00\x00\x0a";
+const SEALED: &[u8] =
+    b"\0\0\0\xe7v4.local.NDU2Nzg5Ojs8PT4_QEFCQ0RFRkdISUpLTE1OT1BRUlPtLTA6kw66Oul-K5cPFM1ehejIlyJrhKmoHLji5urahVSI0HJiKEK1jXxYMBwQX6nLRz7DYrZFcApClb3JZUWKxWH4rVWLpGsJvmh0PXrxJVLWn33CB5LbNlLf-WbWJ9sWt_GkzJEO5vksUkuNuRiyDZibD5-7CV0TqhDFX8ICf8bREW3vIg";
 
-const BEGUN_LATER: &[u8] = b"\x00\x00\x00\x25\x93\x00\x01\xd9\x20018bcfe56be870018203040506070809";
+const WRAPPED: &[u8] =
+    b"\0\0\0\xd8{\"wpk\":\"k4.local-wrap.pie.wm7QBbJ9CVMYAsRqtyVxox39IvNJYAXyXriXL3w2dYZUVVZXWFlaW1xdXl9gYWJjZGVmZ2hpamtsbW5vcHFycxMS6IkNcf_BonO_4_lTWhGmS5xmhda9Vp1A_bdvhAQD\",\"kid\":\"k4.lid.iVtYQDjr5gEijCSjJC3fQaJm7nCeQSeaty0Jixy8dbsk\"}";
 
-const STORED: &[u8] = b"\x00\x00\x00\x04\x93\x00\x02\x00";
+const ENDED_DIGEST: &[u8] = b"\xeb\x9e\xc5\xe1\xe2\x23\xe3\x58\x55\x00\xa4\x44\xba\x88\xef\x9e";
+
+const START: &[u8] = b"\0\0\0\x0e\x95\x01\xa2ls\xa1/\xa2s1\xa3h:u";
+
+const END: &[u8] = b"\0\0\0\x28\x94\x02\xd9\x20018bcfe5680070018203040506070809\xcd\x03\xe8\0";
+
+const SEARCH: &[u8] = b"\0\0\0\x09\x98\x04\0\0\xa0\xa0\0\0\x0a";
+
+const BEGUN: &[u8] = b"\0\0\0\x25\x93\0\x01\xd9\x20018bcfe5680070018203040506070809";
+
+const STORED: &[u8] = b"\0\0\0\x04\x93\0\x02\0";
 
 const FOUND: &[u8] =
-    b"\x00\x00\x00\x40\x93\x00\x02\x91\x98\xd9\x20018bcfe5680070018203040506070809\xcf\x17\x97\x9c\xfe\x36\x2a\x00\x00\xcd\x03\xe8\x00\xa2ls\xa1/\xa2s1\xa3h:u";
-
-const UNKNOWN: &[u8] = b"\x00\x00\x00\x25\x93\x02\x00\xd9\x20ffffffffffffffffffffffffffffffff";
-
-const ENDED_ALREADY: &[u8] =
-    b"\x00\x00\x00\x25\x93\x02\x02\xd9\x20018bcfe5680070018203040506070809";
-
-const NO_RANDOM_BYTES: &[u8] = b"\x00\x00\x00\x03\x92\x05\x01";
-
-const BEGUN_THIRD: &[u8] = b"\x00\x00\x00\x25\x93\x00\x02\xd9\x20018bcfe56fd07a0b8c0d0e0f10111213";
-
-/// Which calls of the outside fail, by their numbers from 1; 0 for none.
-#[derive(Clone, Copy)]
-struct Faults {
-    read: u64,
-    write: u64,
-    draw: u64,
-}
-
-const NONE: Faults = Faults {
-    read: 0,
-    write: 0,
-    draw: 0,
-};
+    b"\0\0\0\x40\x93\0\x02\x91\x98\xd9\x20018bcfe5680070018203040506070809\xcf\x17\x97\x9c\xfe\x36\x2a\0\0\xcd\x03\xe8\0\xa2ls\xa1/\xa2s1\xa3h:u";
 
 fn joined(alloc: Global, parts: &[&[u8]]) -> Result<Vec<u8>, AllocError> {
     let mut all = Vec::new(alloc);
@@ -60,26 +53,71 @@ fn joined(alloc: Global, parts: &[&[u8]]) -> Result<Vec<u8>, AllocError> {
     Ok(all)
 }
 
-/// The status of the words `FOLDER WORD` over this input, and what was written. Two key texts and two disks are handed
-/// in, none of them empty.
-fn ended<R: AllocGlobal + Abort + Threads + Sync>(
+/// A disk of these bytes.
+fn disk_of(alloc: Global, parts: &[&[u8]]) -> Result<MemDisk, Fail> {
+    Ok(MemDisk::new(alloc, joined(alloc, parts)?, Vec::new(alloc))?)
+}
+
+/// A new log of host 1.
+fn new_log(alloc: Global) -> Result<MemDisk, Fail> {
+    disk_of(alloc, &[b"ATULOG02", HOST, b"\0"])
+}
+
+/// The log of `ls`, which began and ended.
+fn whole_log(alloc: Global) -> Result<Vec<u8>, AllocError> {
+    joined(
+        alloc,
+        &[
+            b"ATULOG02",
+            HOST,
+            STARTED,
+            STARTED_DIGEST,
+            ENDED,
+            SEALED,
+            WRAPPED,
+            ENDED_DIGEST,
+            b"\0",
+        ],
+    )
+}
+
+/// The same in the old form.
+fn old_log(alloc: Global) -> Result<MemDisk, Fail> {
+    disk_of(
+        alloc,
+        &[b"ATULOG01", HOST, STARTED, ENDED, SEALED, WRAPPED, b"\0"],
+    )
+}
+
+/// What a command left.
+#[derive(Drop)]
+struct Outcome {
+    status: u8,
+    written: Vec<u8>,
+    disk: MemDisk,
+    second: MemDisk,
+}
+
+/// Runs `FOLDER` and these words over an input and a disk, where the second disk is empty.
+fn ran<R: AllocGlobal + Threads + Sync>(
     rt: &R,
-    word: &str,
-    input: Vec<u8>,
-    faults: Faults,
-) -> Result<(u8, Vec<u8>), Fail> {
+    words: &[&str],
+    key_text: &[u8],
+    input: &[&[u8]],
+    disk: MemDisk,
+) -> Result<Outcome, Fail> {
     let alloc = rt.alloc();
-    let words = vec![in alloc;
-        String::from_str(alloc, "folder")?,
-        String::from_str(alloc, word)?,
-    ]?;
-    let mut source = MemSource::new(input, vec![in alloc; faults.read]?);
-    let mut sink = MemSink::new(alloc, vec![in alloc; faults.write]?);
-    let mut drawn = Vec::new(alloc);
-    for byte in 0..30u8 {
-        drawn.push(byte)?;
+    let mut all = vec![in alloc; String::from_str(alloc, "folder")?]?;
+    for word in words {
+        all.push(String::from_str(alloc, word)?)?;
     }
-    let mut rand = ListEntropy::new(drawn, vec![in alloc; faults.draw]?);
+    let mut source = MemSource::new(joined(alloc, input)?, Vec::new(alloc));
+    let mut sink = MemSink::new(alloc, Vec::new(alloc));
+    let mut random = Vec::new(alloc);
+    for byte in 0..128u8 {
+        random.push(byte)?;
+    }
+    let mut rand = ListEntropy::new(random, Vec::new(alloc));
     let mut clock = FixedClock {
         now: 1_700_000_000_000_000_000,
         step: 1_000_000_000,
@@ -88,126 +126,148 @@ fn ended<R: AllocGlobal + Abort + Threads + Sync>(
     let ended = run_once(
         rt,
         alloc,
-        &words,
-        b"a key's text",
+        &all,
+        key_text,
         b"another one",
         &mut source,
         &mut sink,
-        SureDisk::new(alloc, Vec::from_slice(alloc, b"first")?)?,
-        SureDisk::new(alloc, Vec::from_slice(alloc, b"second")?)?,
+        disk,
+        disk_of(alloc, &[])?,
         &mut rand,
         &mut clock,
         &mut link,
     );
-    assert_eq!(rt; ended.disk.shows(), b"first".as_slice());
-    assert_eq!(rt; ended.second.shows(), b"second".as_slice());
-    Ok((ended.status, Vec::from_slice(alloc, sink.written())?))
+    Ok(Outcome {
+        status: ended.status,
+        written: Vec::from_slice(alloc, sink.written())?,
+        disk: ended.disk,
+        second: ended.second,
+    })
 }
 
+/// Sees that `pipe` over a new log gives this output and status.
 fn check<R: AllocGlobal + Abort + Threads + Sync>(
     rt: &R,
     input: &[&[u8]],
-    faults: Faults,
     output: &[&[u8]],
     status: u8,
-) -> Result<(), Fail> {
-    let (found, written) = ended(rt, "pipe", joined(rt.alloc(), input)?, faults)?;
-    let wanted = joined(rt.alloc(), output)?;
-    assert_eq!(rt; written.as_slice(), wanted.as_slice());
-    assert_eq!(rt; found, status);
+) -> Result<MemDisk, Fail> {
+    let alloc = rt.alloc();
+    let piped = ran(rt, &["pipe"], KEY, input, new_log(alloc)?)?;
+    let wanted = joined(alloc, output)?;
+    assert_eq!(rt; piped.written.as_slice(), wanted.as_slice());
+    assert_eq!(rt; piped.status, status);
+    Ok(piped.disk)
+}
+
+#[test]
+fn a_log_is_made_once(rt: HostRuntime) -> Result<(), Fail> {
+    let alloc = rt.alloc();
+    let made = ran(&rt, &["init"], b"", &[], disk_of(alloc, &[])?)?;
+    assert_eq!(rt; made.status, 0);
+    assert_eq!(rt;
+        made.disk.shows(),
+        b"ATULOG02\x01\x8b\xcf\xe5\x68\x00\x70\x01\x82\x03\x04\x05\x06\x07\x08\x09\0\0\0\0\0\0\0\0\0".as_slice()
+    );
+    let again = ran(&rt, &["init"], b"", &[], made.disk)?;
+    assert_eq!(rt; again.status, 9);
+    let empty = ran(&rt, &["pipe"], KEY, &[START], again.second)?;
+    assert_eq!(rt; empty.status, 9);
     Ok(())
 }
 
 #[test]
-fn commands_begin_end_and_are_found(rt: HostRuntime) -> Result<(), Fail> {
-    check(&rt, &[], NONE, &[], 0)?;
-    check(
-        &rt,
-        &[START, END, SEARCH, SEARCH_PAST_A_TEXT],
-        NONE,
-        &[BEGUN, STORED, FOUND, FOUND],
-        0,
-    )?;
-    check(
-        &rt,
-        &[END_OF_ANOTHER, START],
-        NONE,
-        &[UNKNOWN, BEGUN_LATER],
-        0,
-    )?;
-    check(
-        &rt,
-        &[START, END, END],
-        NONE,
-        &[BEGUN, STORED, ENDED_ALREADY],
-        0,
-    )
+fn a_command_is_kept_found_and_told(rt: HostRuntime) -> Result<(), Fail> {
+    let alloc = rt.alloc();
+    let disk = check(&rt, &[START, END, SEARCH], &[BEGUN, STORED, FOUND], 0)?;
+    assert_eq!(rt; disk.shows(), whole_log(alloc)?.as_slice());
+    let found = ran(&rt, &["search", "--mode", "prefix", "ls"], KEY, &[], disk)?;
+    assert_eq!(rt; found.status, 0);
+    assert_eq!(rt;
+        found.written.as_slice(),
+        b"2023-11-14T22:13:20Z\t0\tls\n".as_slice()
+    );
+    let told = ran(&rt, &["status"], b"", &[], found.disk)?;
+    assert_eq!(rt; told.status, 0);
+    assert_eq!(rt;
+        told.written.as_slice(),
+        b"00000000-0000-0000-0000-000000000001 history 1\n".as_slice()
+    );
+    Ok(())
 }
 
 #[test]
-fn payloads_that_are_no_call_get_their_place(rt: HostRuntime) -> Result<(), Fail> {
-    let no_number = b"\x00\x00\x00\x02\x91\x63".as_slice();
-    let nothing = b"\x00\x00\x00\x00".as_slice();
-    let number_0 = b"\x00\x00\x00\x02\x95\x00".as_slice();
-    let one_byte_more = b"\x00\x00\x00\x0f\x95\x01\xa2ls\xa1/\xa2s1\xa3h:u\x00".as_slice();
-    let billions = b"\x00\x00\x00\x05\xdd\xff\xff\xff\xff".as_slice();
-    let text_cut = b"\x00\x00\x00\x07\x95\x01\xdb\xff\xff\xff\xff".as_slice();
-    let query = b"\x00\x00\x00\x0b\x98\x04\x00\x00\xa0\xa2ls\x00\x00\x0a".as_slice();
-    let number_for_a_text = b"\x00\x00\x00\x09\x98\x04\x00\x00\x05\xa0\x00\x00\x0a".as_slice();
-    let place_0 = b"\x00\x00\x00\x04\x93\x09\x00\x00".as_slice();
-    let place_1 = b"\x00\x00\x00\x04\x93\x09\x00\x01".as_slice();
-    let place_2 = b"\x00\x00\x00\x04\x93\x09\x00\x02".as_slice();
-    let place_4 = b"\x00\x00\x00\x04\x93\x09\x00\x04".as_slice();
-    let place_5 = b"\x00\x00\x00\x04\x93\x09\x00\x05".as_slice();
-    let place_14 = b"\x00\x00\x00\x04\x93\x09\x00\x0e".as_slice();
-    check(
-        &rt,
-        &[
-            no_number,
-            nothing,
-            number_0,
-            one_byte_more,
-            billions,
-            text_cut,
-            query,
-            number_for_a_text,
-            START,
-        ],
-        NONE,
-        &[
-            place_1, place_0, place_1, place_14, place_0, place_2, place_5, place_4, BEGUN,
-        ],
-        0,
-    )
+fn an_old_log_is_moved_over(rt: HostRuntime) -> Result<(), Fail> {
+    let alloc = rt.alloc();
+    let moved = ran(&rt, &["migrate"], b"", &[], old_log(alloc)?)?;
+    assert_eq!(rt; moved.status, 0);
+    assert_eq!(rt; moved.written.as_slice(), b"entries 2\n".as_slice());
+    assert_eq!(rt; moved.second.shows(), whole_log(alloc)?.as_slice());
+    let unread = ran(&rt, &["pipe"], KEY, &[START], moved.disk)?;
+    assert_eq!(rt; unread.status, 19);
+    Ok(())
 }
 
 #[test]
 fn an_input_that_ends_badly_keeps_its_replies(rt: HostRuntime) -> Result<(), Fail> {
-    check(&rt, &[START, END, &SEARCH[..7]], NONE, &[BEGUN, STORED], 13)?;
-    check(&rt, &[START, &END[..2]], NONE, &[BEGUN], 13)?;
-    check(&rt, &[b"\x00\x10\x00\x01", START], NONE, &[], 13)
+    check(&rt, &[], &[], 0)?;
+    check(&rt, &[START, END, &SEARCH[..7]], &[BEGUN, STORED], 13)?;
+    check(&rt, &[b"\x00\x10\x00\x01", START], &[], 13)?;
+    Ok(())
 }
 
 #[test]
-fn faults_in_mid_stream_have_their_own_answers(rt: HostRuntime) -> Result<(), Fail> {
-    let read = Faults { read: 4, ..NONE };
-    let write = Faults { write: 2, ..NONE };
-    let draw = Faults { draw: 2, ..NONE };
-    check(&rt, &[START, END, SEARCH], read, &[BEGUN], 4)?;
-    check(&rt, &[START, END, SEARCH], write, &[BEGUN], 5)?;
+fn pairs_and_aliases_are_kept(rt: HostRuntime) -> Result<(), Fail> {
     check(
         &rt,
-        &[START, START, START],
-        draw,
-        &[BEGUN, NO_RANDOM_BYTES, BEGUN_THIRD],
+        &[b"\0\0\0\x05\x92\x09\xa2zz"],
+        &[b"\0\0\0\x06\x93\x03\0\xa2zz"],
         0,
-    )
+    )?;
+    check(
+        &rt,
+        &[
+            b"\0\0\0\x08\x94\x05\xa1n\xa1k\xa1v",
+            b"\0\0\0\x06\x93\x06\xa1n\xa1k",
+            b"\0\0\0\x06\x93\x06\xa1n\xa1j",
+        ],
+        &[
+            b"\0\0\0\x04\x93\0\x01\0",
+            b"\0\0\0\x05\x93\0\x01\xa1v",
+            b"\0\0\0\x04\x93\0\x01\xc0",
+        ],
+        0,
+    )?;
+    Ok(())
 }
 
 #[test]
-fn other_words_are_refused(rt: HostRuntime) -> Result<(), Fail> {
-    let (status, written) = ended(&rt, "serve", joined(rt.alloc(), &[START])?, NONE)?;
-    assert_eq!(rt; written.len(), 0);
-    assert_eq!(rt; status, 2);
+fn faulty_words_and_keys_change_nothing(rt: HostRuntime) -> Result<(), Fail> {
+    let alloc = rt.alloc();
+    let fuzzy = ran(
+        &rt,
+        &["search", "--mode", "fuzzy", "x"],
+        KEY,
+        &[],
+        new_log(alloc)?,
+    )?;
+    assert_eq!(rt; fuzzy.status, 2);
+    let keyless = ran(&rt, &["pipe"], &KEY[1..], &[START], fuzzy.disk)?;
+    assert_eq!(rt; keyless.status, 3);
+    assert_eq!(rt; keyless.written.len(), 0);
+    Ok(())
+}
+
+#[test]
+fn refusals_have_their_own_replies(rt: HostRuntime) -> Result<(), Fail> {
+    let unknown = b"\0\0\0\x25\x93\x02\0\xd9\x20ffffffffffffffffffffffffffffffff".as_slice();
+    let ended_already =
+        b"\0\0\0\x25\x93\x02\x02\xd9\x20018bcfe5680070018203040506070809".as_slice();
+    let end_of_another =
+        b"\0\0\0\x28\x94\x02\xd9\x20ffffffffffffffffffffffffffffffff\xcd\x03\xe8\0".as_slice();
+    let no_call = b"\0\0\0\x02\x91\x63".as_slice();
+    let at_1 = b"\0\0\0\x04\x93\x09\0\x01".as_slice();
+    check(&rt, &[end_of_another, no_call], &[unknown, at_1], 0)?;
+    check(&rt, &[START, END, END], &[BEGUN, STORED, ended_already], 0)?;
     Ok(())
 }

@@ -1,35 +1,28 @@
 //! The top call: one command, over the outside that is handed in.
 
-ghost use Rattle.std.specs.Prelude.{◌≡◌, ◌↔◌, ◌⊎◌, ◌++◌, true, false, Some, List, ℕ};
-ghost use Rattle.definitions.specs.Frames.{CutAfter, frames};
-ghost use Rattle.atuin_main.specs.Sessions.{most_requests};
-ghost use Rattle.atuin_main.specs.Program.{texts, is_pipe, status_of, EndsWith, IsStatusOf, IsFault};
+ghost use Rattle.std.specs.Prelude.{◌≡◌};
+ghost use Rattle.search_words.specs.Words.{texts};
+ghost use Rattle.command_words.specs.Commands.{command_of};
+ghost use Rattle.statuses.specs.Numbers.{number_of};
+ghost use Rattle.commands.specs.Migrating.{status_of_migrate};
+ghost use Rattle.store_commands.specs.Ends.{status_of_fail};
+ghost use Rattle.store_commands.specs.Piping.{status_of_pipe};
+ghost use Rattle.atuin_main.specs.Outside.{outside};
+ghost use Rattle.atuin_main.specs.Running.{status_by, CommandFits, RunsCommand, Runs};
 
-use crate::session::serve_plain;
-use crate::words::is_pipe;
-use at_edge::{Clock, Disk, Entropy, Link, SessionFail, Sink, Source};
+use at_edge::{Clock, Disk, Entropy, Link, Sink, Source};
+use command_words::{Command, read_command};
+use commands::{MigrateFail, init, migrate};
+use plain_types::NoMemory;
+use statuses::Status;
 use std::alloc::Global;
 use std::thread::Threads;
-
-/// The source ended between two frames, and each request was answered.
-pub const DONE: u8 = 0;
-/// The words are no command.
-pub const FAULTY_WORDS: u8 = 2;
-/// A read failed.
-pub const SOURCE_FAULT: u8 = 4;
-/// A write failed.
-pub const SINK_FAULT: u8 = 5;
-/// There was no memory before the first byte was read.
-pub const NO_MEMORY: u8 = 11;
-/// A frame is cut or too long.
-pub const FAULTY_FRAME: u8 = 13;
-/// The last request that a session may have was answered.
-pub const SESSION_LIMIT: u8 = 14;
+use store_commands::{CommandFail, PipeFail, pipe, search, status};
 
 /// How a command ended.
 #[derive(Drop)]
 pub struct Ended<D> {
-    /// One of the constants above.
+    /// The number of a [`Status`].
     pub status: u8,
     /// The disk that was handed in.
     pub disk: D,
@@ -37,23 +30,96 @@ pub struct Ended<D> {
     pub second: D,
 }
 
-fn status_of(outcome: Result<at_edge::Served, SessionFail>) -> u8
-    ensures { result ≡ status_of outcome }
+fn status_of_pipe(ended: Result<(), PipeFail>) -> Status
+    ensures { result ≡ status_by status_of_pipe ended }
 {
-    match outcome {
-        Ok(_) => DONE,
-        Err(SessionFail::SourceFault) => SOURCE_FAULT,
-        Err(SessionFail::SinkFault) => SINK_FAULT,
-        Err(SessionFail::NoMemory) => NO_MEMORY,
-        Err(SessionFail::CutFrame { .. } | SessionFail::FrameTooLong { .. }) => FAULTY_FRAME,
-        Err(SessionFail::SessionLimit) => SESSION_LIMIT,
+    match ended {
+        Ok(()) => Status::Done,
+        Err(fail) => fail.status(),
     }
 }
 
-/// Runs the command that the words name: `FOLDER pipe` answers the requests that the source gives, over a journal in
-/// memory, until the source ends. It never waits but for the source and the sink, and always returns. The key texts
-/// aren't read, and both disks and the link are as they were handed in.
-#[allow(clippy::too_many_arguments)]
+fn status_of_told(ended: Result<(), CommandFail>) -> Status
+    ensures { result ≡ status_by status_of_fail ended }
+{
+    match ended {
+        Ok(()) => Status::Done,
+        Err(fail) => fail.status(),
+    }
+}
+
+fn status_of_migrate(ended: Result<(), MigrateFail>) -> Status
+    ensures { result ≡ status_by status_of_migrate ended }
+{
+    match ended {
+        Ok(()) => Status::Done,
+        Err(fail) => fail.status(),
+    }
+}
+
+/// Runs this command.
+fn run<S: Source, K: Sink, D: Disk, E: Entropy, C: Clock>(
+    alloc: Global,
+    command: Command,
+    key_text: &[u8],
+    source: &mut S,
+    sink: &mut K,
+    disk: D,
+    second: D,
+    rand: &mut E,
+    clock: &mut C,
+) -> Ended<D>
+    requires fits { CommandFits command }
+    ensures { RunsCommand command result.status key_text.now (outside (S.source source.old) (K.sink sink.old) (D.disk disk) (D.disk second) (E.entropy rand.old) (C.clock clock.old)) (outside (S.source source.new) (K.sink sink.new) (D.disk result.disk) (D.disk result.second) (E.entropy rand.new) (C.clock clock.new)) }
+{
+    match command {
+        Command::Init => {
+            let made = init(disk, rand, clock);
+            Ended {
+                status: made.status.number(),
+                disk: made.disk,
+                second,
+            }
+        }
+        Command::Pipe => {
+            let piped = pipe(alloc, key_text, disk, source, sink, rand, clock);
+            Ended {
+                status: status_of_pipe(piped.result).number(),
+                disk: piped.disk,
+                second,
+            }
+        }
+        Command::Status => {
+            let told = status(alloc, disk, sink);
+            Ended {
+                status: status_of_told(told.result).number(),
+                disk: told.disk,
+                second,
+            }
+        }
+        Command::Search(query) => {
+            let told = search(alloc, key_text, query, disk, sink);
+            Ended {
+                status: status_of_told(told.result).number(),
+                disk: told.disk,
+                second,
+            }
+        }
+        Command::Migrate => {
+            let moved = migrate(alloc, disk, second, sink);
+            Ended {
+                status: status_of_migrate(moved.result).number(),
+                disk: moved.disk,
+                second: moved.second,
+            }
+        }
+    }
+}
+
+/// Runs the command that the words name over the outside that is handed in, and says by a number how it ended. Each command
+/// does what its own crate says of it, `commands` or `store_commands`, and leaves alone what it has no use for: the second disk
+/// is that of `migrate` alone, and no command asks the link yet, nor reads the second key's text. Words that are no command,
+/// and want of memory in reading them, change nothing. It waits for nothing but the source and the sink, and always returns.
 pub fn run_once<
     R: Threads + Sync,
     S: Source + Drop,
@@ -76,27 +142,20 @@ pub fn run_once<
     clock: &mut C,
     link: &mut L,
 ) -> Ended<D>
-    // 2 exactly where the words are no command; then nothing was touched.
-    ensures words { (result.status ≡ 2) ↔ (is_pipe (texts words.now) ≡ false) }
-    ensures untouched { is_pipe (texts words.now) ≡ false → (source.new ≡ source.old) × (sink.new ≡ sink.old) × (rand.new ≡ rand.old) × (clock.new ≡ clock.old) }
-    // Else a session, whose outcome the status tells: bytes taken, bytes written, and the cause of each status.
-    ensures session { is_pipe (texts words.now) ≡ true → EndsWith result.status (S.source source.old) (S.source source.new) (K.sink sink.old) (K.sink sink.new) (E.entropy rand.old) (E.entropy rand.new) (C.clock clock.old) (C.clock clock.new) }
-    // Where the source tells what is left in it, the status is that of those bytes, but for a fault and want of memory.
-    ensures exact { is_pipe (texts words.now) ≡ true → (payloads : List (List ℕ)) (rest : List ℕ) → CutAfter most_requests payloads rest → (S.source source.old).left ≡ Some (frames payloads ++ rest) → IsFault result.status ⊎ IsStatusOf result.status payloads rest }
-    ensures disk { result.disk ≡ disk }
-    ensures second { result.second ≡ second }
+    ensures runs { Runs (command_of (texts words.now)) result.status key_text.now (outside (S.source source.old) (K.sink sink.old) (D.disk disk) (D.disk second) (E.entropy rand.old) (C.clock clock.old)) (outside (S.source source.new) (K.sink sink.new) (D.disk result.disk) (D.disk result.second) (E.entropy rand.new) (C.clock clock.new)) }
     ensures link { link.new ≡ link.old }
 {
-    if !is_pipe(words) {
-        return Ended {
-            status: FAULTY_WORDS,
-            disk,
-            second,
-        };
-    }
-    let status = status_of(serve_plain(alloc, source, sink, rand, clock));
+    let status = match read_command(alloc, words) {
+        Ok(Some(command)) => {
+            return run(
+                alloc, command, key_text, source, sink, disk, second, rand, clock,
+            );
+        }
+        Ok(None) => Status::FaultyWords,
+        Err(NoMemory) => Status::NoMemory,
+    };
     Ended {
-        status,
+        status: status.number(),
         disk,
         second,
     }

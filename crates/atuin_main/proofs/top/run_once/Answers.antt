@@ -1,9 +1,7 @@
-use Rattle.std.proofs.Common.{◌⊎◌, ℕ, subst, sym}
-use Rattle.atuin_main.specs.Program.{IsStatusOf, IsFault}
-use Rattle.atuin_main.proofs.Inputs.{input_status}
+use Rattle.std.proofs.Common.{sym, ◌∙◌}
+use Rattle.search_words.specs.Words.{texts}
+use Rattle.atuin_main.proofs.Fits.{command_fits}
 use Rattle.atuin_main.proofs.top.run_once.Goals as goal
 
-pub returns-clause-exact : goal.returns-clause-exact
-returns-clause-exact g c = λ _ payloads rest cut input.
-    subst (λ (status : ℕ). IsFault status ⊎ IsStatusOf status payloads rest) (sym c.status_of-status.ensures)
-    (input_status c.serve_plain.result _ _ _ _ _ _ _ _ c.serve_plain.ensures payloads rest cut input)
+pub run-requires : goal.run-requires
+run-requires g c = record { fits = command_fits (texts c.args.words.now) c.in-Ok-Some.command (sym c.in-Ok-Some.ensures ∙ c.in-Ok-Some.field-0-is) }

@@ -1,6 +1,0 @@
-pub mod Entries
-pub mod Requests
-pub mod Hits
-pub mod Answering
-pub mod Answers
-pub mod Reads

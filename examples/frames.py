@@ -27,6 +27,8 @@ def unpacked(data, at=0):
     mark, at = data[at], at + 1
     if mark < 0x80:
         return mark, at
+    if mark == 0xc0:
+        return None, at
     if mark >= 0xe0:
         return mark - 256, at
     for first, form in ((0xcc, '>B'), (0xcd, '>H'), (0xce, '>I'), (0xcf, '>Q'), (0xd0, '>b'), (0xd1, '>h'), (0xd2, '>i'), (0xd3, '>q')):

@@ -5,14 +5,9 @@ pub mod Frames
 pub mod Ids
 pub mod Items
 pub mod Numbered
-pub mod Calls
 pub mod Among
 pub mod Search
-pub mod Steps
 pub mod Examples
-pub mod Outcomes
-pub mod Determined
-pub mod Ranges
 pub mod Counts
 pub mod Prefixes
 pub mod Lengths

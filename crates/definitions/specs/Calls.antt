@@ -1,5 +1,5 @@
 -- The calls that a request's payload spells, and where a payload that spells none goes wrong.
-use Rattle.std.specs.Prelude.{◌≡◌, ◌≢◌, ℕ, ◌+◌, ◌-◌, ◌<◌, ◌≤◌, ◌^◌, ℤ, pos, FitsSigned, List, [], ◌∷◌, ◌++◌, length, Option, Some, None, IsSome, ◌==◌, if◌then◌else◌}
+use Rattle.std.specs.Prelude.{◌≡◌, ◌≢◌, ℕ, ◌+◌, ◌<◌, ◌≤◌, ◌^◌, ℤ, pos, FitsSigned, List, [], ◌∷◌, ◌++◌, length, Option, Some, IsSome}
 use Rattle.std.specs.Int.{w64}
 use Rattle.definitions.specs.Spelling.{SpellsInteger, SpellsText, SpellsArray}
 use Rattle.definitions.specs.Ids.{id_text}
@@ -82,64 +82,27 @@ pub data WrongAt (table : ℕ → Option (List Kind)) (payload : List ℕ) (plac
       → NoPrefix (IsArgument kind) rest → place ≡ length (header ++ (number ++ read)) → WrongAt table payload place
   left_over : (c : ℕ) (good : List Argument) (spelled rest : List ℕ) → payload ≡ spelled ++ rest → SpellsNumbered table c good spelled → rest ≢ [] → place ≡ length spelled → WrongAt table payload place
 
--- ---- the calls of a plain journal
+-- ---- searches, starts and ends
 
 -- how a search compares: the query begins the command, or stands anywhere in it
 pub data SearchMode : Type 0 where
   by_prefix : SearchMode
   by_substring : SearchMode
 
--- what a search over the views asks; a plain one has no text to match
+-- what a search over the views asks
 pub record SearchQuery : Type 0 where
   pub mode : SearchMode
   pub text : List ℕ
   pub offset : ℕ
   pub limit : ℕ
 
-pub data PlainCall : Type 0 where
-  -- command, working directory, session and host name
-  plain_start_call : List ℕ → List ℕ → List ℕ → List ℕ → PlainCall
-  -- the id of a running command, its duration in nanoseconds and its exit status
-  plain_end_call : ℕ → ℤ → ℤ → PlainCall
-  -- for all: a mode that makes no difference, a filter's text that is read past, the offset and the limit
-  plain_search_call : SearchMode → List ℕ → ℕ → ℕ → PlainCall
-
--- the arguments of a Start, an End and a Search; a plain Search has no filter, no query and no unique hits
+-- the kinds of the arguments of a Start and of an End
 abbrev pub start_kinds : List Kind
 start_kinds = any_text ∷ any_text ∷ any_text ∷ any_text ∷ []
 
 abbrev pub end_kinds : List Kind
 end_kinds = id_digits ∷ signed_64 ∷ signed_64 ∷ []
 
-abbrev pub plain_search_kinds : List Kind
-plain_search_kinds = from_to 0 1 ∷ from_to 0 0 ∷ any_text ∷ empty_text ∷ from_to 0 0 ∷ from_to 0 (2 ^ 32 - 1) ∷ from_to 1 1000 ∷ []
-
--- the kinds of the arguments of the call of a number: 1 Start, 2 End, 4 Search
-abbrev pub plain_kinds : ℕ → Option (List Kind)
-plain_kinds n = if n == 1 then Some start_kinds else (if n == 2 then Some end_kinds else (if n == 4 then Some plain_search_kinds else None))
-
 abbrev pub mode_number : SearchMode → ℕ
 mode_number by_prefix = 0
 mode_number by_substring = 1
-
-abbrev pub call_number : PlainCall → ℕ
-call_number (plain_start_call command cwd session hostname) = 1
-call_number (plain_end_call id duration exit) = 2
-call_number (plain_search_call mode past offset limit) = 4
-
-abbrev pub arguments : PlainCall → List Argument
-arguments (plain_start_call command cwd session hostname) = a_text command ∷ a_text cwd ∷ a_text session ∷ a_text hostname ∷ []
-arguments (plain_end_call id duration exit) = a_text (id_text id) ∷ an_integer duration ∷ an_integer exit ∷ []
-arguments (plain_search_call mode past offset limit) =
-    an_integer (pos (mode_number mode)) ∷ an_integer (pos 0) ∷ a_text past ∷ a_text [] ∷ an_integer (pos 0) ∷ an_integer (pos offset) ∷ an_integer (pos limit) ∷ []
-
--- an id has 128 bits
-abbrev pub IdFits : PlainCall → Type 0
-IdFits (plain_start_call command cwd session hostname) = Unit {0}
-IdFits (plain_end_call id duration exit) = id < 2 ^ 128
-IdFits (plain_search_call mode past offset limit) = Unit {0}
-
--- the payload is the call's number and its arguments
-pub record SpellsCall (call : PlainCall) (payload : List ℕ) : Type 0 where
-  pub id_fits : IdFits call
-  pub numbered : SpellsNumbered plain_kinds (call_number call) (arguments call) payload

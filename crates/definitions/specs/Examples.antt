@@ -1,16 +1,14 @@
--- The definitions worked out, with values written out by hand from the rule in words. Texts are ASCII where nothing
--- else
--- is said, and payloads and replies stand in bytes.
+-- The definitions worked out, with values written out by hand from the rule in words. Texts are ASCII where nothing else
+-- is said, and replies stand in bytes.
 use Rattle.std.specs.Prelude.{◌≡◌, ℕ, pos, negsuc, List, [], ◌∷◌, ◌++◌, length, map, codes, replicate, true, false, Some, None}
 use Rattle.definitions.specs.Spelling.{IsBytes, SpellsInteger, IsInteger, IsSpellable, written_integer, text_head, SpellsText, IsText, shortest_text, written_text, SpellsArray, IsArray, written_array}
 use Rattle.definitions.specs.Frames.{frame, frames, named_length, NoWholeFrame, CutFrame, LongFrame, whole_stream, cut_stream, long_stream, StreamEnds, CutAfter}
 use Rattle.definitions.specs.Ids.{made_id, id_text}
-use Rattle.definitions.specs.Calls.{by_prefix, by_substring, PlainCall, plain_start_call, plain_end_call, plain_search_call, plain_kinds, SpellsCall, WrongAt}
-use Rattle.definitions.specs.Journal.{StartedRecord, HistoryRecord, JournalEntry, begun, ended, begun_in, ended_in, HaveDistinctIds, was_begun, has_ended, finished, SoundJournal, FitsJournal}
+use Rattle.definitions.specs.Calls.{by_prefix, by_substring}
+use Rattle.definitions.specs.Journal.{StartedRecord, HistoryRecord, HaveDistinctIds, finished}
 use Rattle.definitions.specs.Search.{compared, matches_by, is_shown_before, hit_bytes, FitsPage, IsPage, IsAnswer}
-use Rattle.definitions.specs.Replies.{PlainAnswer, plain_began_id, plain_stored_index, plain_hit_list, plain_unknown_id, plain_random_fault, plain_id_taken, plain_no_memory, plain_bad_request, is_plain_refusal, PlainReply, plain_reply_bytes}
-use Rattle.definitions.specs.Step.{Used, then_used, UsedFits, PlainStep}
-use Rattle.definitions.specs.Runs.{Run, IsSplitRun, random_faults}
+use Rattle.definitions.specs.Replies.{began_bytes, stored_bytes, hits_bytes, unknown_id_bytes, random_fault_bytes, id_taken_bytes, no_memory_bytes, bad_request_bytes}
+use Rattle.definitions.specs.Step.{then_used, UsedFits}
 
 -- ---- items
 
@@ -163,96 +161,13 @@ pub record WorkedIds : Type 0 where
   -- small ids have 32 digits too, and the letters are small
   pub ten : id_text 10 ≡ codes "0000000000000000000000000000000a"
 
--- ---- calls
+-- ---- commands
 
 -- "ls" in "/" of the session "s1" on the host "h:u", begun then
 abbrev pub ls : StartedRecord
 ls = record { id = first_id; timestamp = first_time; command = codes "ls"; cwd = codes "/"; session = codes "s1"; hostname = codes "h:u" }
 
-abbrev pub start_ls : PlainCall
-start_ls = plain_start_call (codes "ls") (codes "/") (codes "s1") (codes "h:u")
-
-abbrev pub start_payload : List ℕ
-start_payload = 0x95 ∷ 0x01 ∷ 0xa2 ∷ 0x6c ∷ 0x73 ∷ 0xa1 ∷ 0x2f ∷ 0xa2 ∷ 0x73 ∷ 0x31 ∷ 0xa3 ∷ 0x68 ∷ 0x3a ∷ 0x75 ∷ []
-
--- its end after 1,000 ns with status 0
-abbrev pub end_ls : PlainCall
-end_ls = plain_end_call first_id (pos 1000) (pos 0)
-
-abbrev pub end_payload : List ℕ
-end_payload = 0x94 ∷ 0x02 ∷ 0xd9 ∷ 0x20 ∷ (first_digits ++ 0xcd ∷ 0x03 ∷ 0xe8 ∷ 0x00 ∷ [])
-
--- the first ten of all commands
-abbrev pub all_hits : PlainCall
-all_hits = plain_search_call by_prefix [] 0 10
-
-abbrev pub all_payload : List ℕ
-all_payload = 0x98 ∷ 0x04 ∷ 0x00 ∷ 0x00 ∷ 0xa0 ∷ 0xa0 ∷ 0x00 ∷ 0x00 ∷ 0x0a ∷ []
-
--- the third, with a text of the filter, "x", that is read past
-abbrev pub third_hit : PlainCall
-third_hit = plain_search_call by_substring (codes "x") 2 1
-
--- a thousand, behind as many as can be left out
-abbrev pub last_hits : PlainCall
-last_hits = plain_search_call by_prefix [] 4294967295 1000
-
-pub record WorkedCalls : Type 0 where
-  pub start : SpellsCall start_ls start_payload
-  -- the header in 16 bits, the number with a sign, and the command's length in a byte of its own
-  pub start_wide : SpellsCall start_ls (0xdc ∷ 0x00 ∷ 0x05 ∷ 0xd0 ∷ 0x01 ∷ 0xd9 ∷ 0x02 ∷ 0x6c ∷ 0x73 ∷ 0xa1 ∷ 0x2f ∷ 0xa2 ∷ 0x73 ∷ 0x31 ∷ 0xa3 ∷ 0x68 ∷ 0x3a ∷ 0x75 ∷ [])
-  pub end : SpellsCall end_ls end_payload
-  -- a duration of -2^63 and a status of one less than 2^63
-  pub end_far : SpellsCall (plain_end_call first_id (negsuc 9223372036854775807) (pos 9223372036854775807))
-      (0x94 ∷ 0x02 ∷ 0xd9 ∷ 0x20 ∷ (first_digits ++ 0xd3 ∷ 0x80 ∷ 0x00 ∷ 0x00 ∷ 0x00 ∷ 0x00 ∷ 0x00 ∷ 0x00 ∷ 0x00 ∷ 0xcf ∷ 0x7f ∷ 0xff ∷ 0xff ∷ 0xff ∷ 0xff ∷ 0xff ∷ 0xff ∷ 0xff ∷ []))
-  pub search : SpellsCall all_hits all_payload
-  pub search_third : SpellsCall third_hit (0x98 ∷ 0x04 ∷ 0x01 ∷ 0x00 ∷ 0xa1 ∷ 0x78 ∷ 0xa0 ∷ 0x00 ∷ 0x02 ∷ 0x01 ∷ [])
-  pub search_last : SpellsCall last_hits (0x98 ∷ 0x04 ∷ 0x00 ∷ 0x00 ∷ 0xa0 ∷ 0xa0 ∷ 0x00 ∷ 0xce ∷ 0xff ∷ 0xff ∷ 0xff ∷ 0xff ∷ 0xcd ∷ 0x03 ∷ 0xe8 ∷ [])
-  -- no payload spells an id of 129 bits
-  pub id_above : (payload : List ℕ) → SpellsCall (plain_end_call 340282366920938463463374607431768211456 (pos 0) (pos 0)) payload → ⊥
-
-pub record WorkedFaults : Type 0 where
-  -- nothing, an array of no items, and one of nine
-  pub nothing : WrongAt plain_kinds [] 0
-  pub no_items : WrongAt plain_kinds (0x90 ∷ []) 0
-  pub nine_items : WrongAt plain_kinds (0x99 ∷ 0x01 ∷ []) 0
-  -- 99, 0 and 3 are no call's number, and that is found before a wrong length of the array; its place is behind the
-  -- whole header
-  pub great_number : WrongAt plain_kinds (0x91 ∷ 0x63 ∷ []) 1
-  pub number_0 : WrongAt plain_kinds (0x95 ∷ 0x00 ∷ []) 1
-  pub number_3 : WrongAt plain_kinds (0x92 ∷ 0x03 ∷ []) 1
-  pub behind_wide_header : WrongAt plain_kinds (0xdc ∷ 0x00 ∷ 0x05 ∷ 0x00 ∷ []) 3
-  -- an End without its arguments, and a Start with one too many: the array's length is wrong
-  pub no_arguments : WrongAt plain_kinds (0x91 ∷ 0x02 ∷ []) 0
-  pub more_arguments : WrongAt plain_kinds (0x96 ∷ 0x01 ∷ []) 0
-  -- a Start whose working directory is a number, and one whose command is cut
-  pub no_text : WrongAt plain_kinds (0x95 ∷ 0x01 ∷ 0xa2 ∷ 0x6c ∷ 0x73 ∷ 0x05 ∷ []) 5
-  pub cut : WrongAt plain_kinds (0x95 ∷ 0x01 ∷ 0xa2 ∷ 0x6c ∷ []) 2
-  -- an End whose id has a capital, one whose id has 31 digits, one whose duration is 2^63, and one whose status is a
-  -- text
-  pub capital : WrongAt plain_kinds (0x94 ∷ 0x02 ∷ 0xd9 ∷ 0x20 ∷ codes "018Bcfe5680070018203040506070809") 2
-  pub digits_31 : WrongAt plain_kinds (0x94 ∷ 0x02 ∷ 0xbf ∷ codes "018bcfe568007001820304050607080") 2
-  pub long_duration : WrongAt plain_kinds (0x94 ∷ 0x02 ∷ 0xd9 ∷ 0x20 ∷ (first_digits ++ 0xcf ∷ 0x80 ∷ 0x00 ∷ 0x00 ∷ 0x00 ∷ 0x00 ∷ 0x00 ∷ 0x00 ∷ 0x00 ∷ [])) 36
-  pub status_text : WrongAt plain_kinds (0x94 ∷ 0x02 ∷ 0xd9 ∷ 0x20 ∷ (first_digits ++ 0x00 ∷ 0xa0 ∷ [])) 37
-  -- a Search with the mode 2, the filter 1, a number for the filter's text, a query, unique hits, an offset of 2^32, one
-  -- below 0, and a limit of 0 and of 1,001
-  pub mode_2 : WrongAt plain_kinds (0x98 ∷ 0x04 ∷ 0x02 ∷ []) 2
-  pub filter_1 : WrongAt plain_kinds (0x98 ∷ 0x04 ∷ 0x00 ∷ 0x01 ∷ []) 3
-  pub filter_number : WrongAt plain_kinds (0x98 ∷ 0x04 ∷ 0x00 ∷ 0x00 ∷ 0x05 ∷ []) 4
-  pub query : WrongAt plain_kinds (0x98 ∷ 0x04 ∷ 0x00 ∷ 0x00 ∷ 0xa0 ∷ 0xa2 ∷ 0x6c ∷ 0x73 ∷ 0x00 ∷ 0x00 ∷ 0x0a ∷ []) 5
-  pub unique : WrongAt plain_kinds (0x98 ∷ 0x04 ∷ 0x00 ∷ 0x00 ∷ 0xa0 ∷ 0xa0 ∷ 0x01 ∷ []) 6
-  pub offset_above : WrongAt plain_kinds (0x98 ∷ 0x04 ∷ 0x00 ∷ 0x00 ∷ 0xa0 ∷ 0xa0 ∷ 0x00 ∷ 0xcf ∷ 0x00 ∷ 0x00 ∷ 0x00 ∷ 0x01 ∷ 0x00 ∷ 0x00 ∷ 0x00 ∷ 0x00 ∷ 0x0a ∷ []) 7
-  pub offset_below : WrongAt plain_kinds (0x98 ∷ 0x04 ∷ 0x00 ∷ 0x00 ∷ 0xa0 ∷ 0xa0 ∷ 0x00 ∷ 0xff ∷ 0x0a ∷ []) 7
-  pub limit_0 : WrongAt plain_kinds (0x98 ∷ 0x04 ∷ 0x00 ∷ 0x00 ∷ 0xa0 ∷ 0xa0 ∷ 0x00 ∷ 0x00 ∷ 0x00 ∷ []) 8
-  pub limit_1001 : WrongAt plain_kinds (0x98 ∷ 0x04 ∷ 0x00 ∷ 0x00 ∷ 0xa0 ∷ 0xa0 ∷ 0x00 ∷ 0x00 ∷ 0xcd ∷ 0x03 ∷ 0xe9 ∷ []) 8
-  -- a byte behind a Start, which is then no call
-  pub behind : WrongAt plain_kinds (start_payload ++ 0x00 ∷ []) 14
-  pub no_call : (call : PlainCall) → SpellsCall call (start_payload ++ 0x00 ∷ []) → ⊥
-  -- an End is wrong nowhere
-  pub end_is_right : (place : ℕ) → WrongAt plain_kinds end_payload place → ⊥
-
--- ---- journals
-
+-- the same, ended after 1,000 ns with status 0
 abbrev pub ls_ended : HistoryRecord
 ls_ended = record { id = first_id; timestamp = first_time; duration = pos 1000; exit = pos 0; command = codes "ls"; cwd = codes "/"; session = codes "s1"; hostname = codes "h:u"; deleted_at = None; author = None }
 
@@ -267,35 +182,11 @@ pwd = record { id = 7; timestamp = 20; command = codes "pwd"; cwd = codes "/"; s
 abbrev pub pwd_ended : HistoryRecord
 pwd_ended = record { id = 7; timestamp = 20; duration = pos 3; exit = pos 0; command = codes "pwd"; cwd = codes "/"; session = codes "s1"; hostname = codes "h:u"; deleted_at = None; author = None }
 
--- both were begun, and one has ended
-abbrev pub one_running : List JournalEntry
-one_running = begun ls ∷ begun pwd ∷ ended ls_ended ∷ []
-
 pub record WorkedJournals : Type 0 where
-  pub begun_ones : begun_in one_running ≡ ls ∷ pwd ∷ []
-  pub ended_ones : ended_in (ended pwd_ended ∷ begun ls ∷ ended ls_ended ∷ []) ≡ pwd_ended ∷ ls_ended ∷ []
   pub kept : finished ls (pos 1000) (pos 0) None ≡ ls_ended
-  pub ls_was_begun : was_begun first_id one_running ≡ true
-  pub pwd_was_begun : was_begun 7 one_running ≡ true
-  pub other_was_not : was_begun 8 one_running ≡ false
-  pub end_is_no_start : was_begun first_id (ended ls_ended ∷ []) ≡ false
-  pub ls_is_over : has_ended first_id one_running ≡ true
-  pub pwd_runs : has_ended 7 one_running ≡ false
   -- an id twice, one behind the other or further on
   pub own_ids : HaveDistinctIds (λ (s : StartedRecord). s.id) (ls ∷ pwd ∷ [])
   pub one_id_twice : HaveDistinctIds (λ (s : StartedRecord). s.id) (ls ∷ pwd ∷ record pwd { id = first_id } ∷ []) → ⊥
-  pub sound : SoundJournal one_running
-  -- a command that is begun again, one that ends again, one that ends and was never begun, and ones that end as what
-  -- they weren't
-  pub begun_again : SoundJournal (begun ls ∷ ended ls_ended ∷ begun ls ∷ []) → ⊥
-  pub ended_again : SoundJournal (begun ls ∷ ended ls_ended ∷ ended ls_ended ∷ []) → ⊥
-  pub never_begun : SoundJournal (begun pwd ∷ ended ls_ended ∷ []) → ⊥
-  pub other_command : SoundJournal (begun ls ∷ ended (record ls_ended { command = codes "pwd" }) ∷ []) → ⊥
-  pub other_time : SoundJournal (begun ls ∷ ended (record ls_ended { timestamp = 20 }) ∷ []) → ⊥
-  -- the greatest id and time, and the next ones
-  pub fits : FitsJournal (begun (record ls { id = 340282366920938463463374607431768211455; timestamp = 18446744073709551615 }) ∷ [])
-  pub id_above : FitsJournal (begun pwd ∷ begun (record ls { id = 340282366920938463463374607431768211456 }) ∷ []) → ⊥
-  pub time_above : FitsJournal (begun (record ls { timestamp = 18446744073709551616 }) ∷ []) → ⊥
 
 -- ---- searches
 
@@ -356,93 +247,28 @@ pub record WorkedSearches : Type 0 where
 -- ---- replies
 
 pub record WorkedReplies : Type 0 where
-  pub of_start : plain_reply_bytes (record { front = 1; answer = plain_began_id first_id }) ≡ 0x93 ∷ 0x00 ∷ 0x01 ∷ 0xd9 ∷ 0x20 ∷ first_digits
-  pub of_end : plain_reply_bytes (record { front = 2; answer = plain_stored_index 0 }) ≡ 0x93 ∷ 0x00 ∷ 0x02 ∷ 0x00 ∷ []
+  pub of_start : began_bytes 1 first_id ≡ 0x93 ∷ 0x00 ∷ 0x01 ∷ 0xd9 ∷ 0x20 ∷ first_digits
+  pub of_end : stored_bytes 2 0 ≡ 0x93 ∷ 0x00 ∷ 0x02 ∷ 0x00 ∷ []
   -- a front and an index that don't fit one byte
-  pub of_later_end : plain_reply_bytes (record { front = 300; answer = plain_stored_index 128 }) ≡ 0x93 ∷ 0x00 ∷ 0xcd ∷ 0x01 ∷ 0x2c ∷ 0xcc ∷ 0x80 ∷ []
-  pub of_search : plain_reply_bytes (record { front = 2; answer = plain_hit_list (ls_ended ∷ pwd_ended ∷ []) })
+  pub of_later_end : stored_bytes 300 128 ≡ 0x93 ∷ 0x00 ∷ 0xcd ∷ 0x01 ∷ 0x2c ∷ 0xcc ∷ 0x80 ∷ []
+  pub of_search : hits_bytes 2 (ls_ended ∷ pwd_ended ∷ [])
       ≡ 0x93 ∷ 0x00 ∷ 0x02 ∷ 0x92 ∷ 0x98 ∷ 0xd9 ∷ 0x20 ∷ (first_digits ++ 0xcf ∷ 0x17 ∷ 0x97 ∷ 0x9c ∷ 0xfe ∷ 0x36 ∷ 0x2a ∷ 0x00 ∷ 0x00 ∷ 0xcd ∷ 0x03 ∷ 0xe8 ∷ 0x00 ∷ 0xa2 ∷ 0x6c ∷ 0x73 ∷ 0xa1 ∷ 0x2f ∷ 0xa2 ∷ 0x73 ∷ 0x31 ∷ 0xa3 ∷ 0x68 ∷ 0x3a ∷ 0x75
       ∷ 0x98 ∷ 0xd9 ∷ 0x20 ∷ (codes "00000000000000000000000000000007" ++ 0x14 ∷ 0x03 ∷ 0x00 ∷ 0xa3 ∷ 0x70 ∷ 0x77 ∷ 0x64 ∷ 0xa1 ∷ 0x2f ∷ 0xa2 ∷ 0x73 ∷ 0x31 ∷ 0xa3 ∷ 0x68 ∷ 0x3a ∷ 0x75 ∷ []))
   -- a hit that has an author, who comes last: nine items
-  pub of_authored : plain_reply_bytes (record { front = 2; answer = plain_hit_list (authored_ls ∷ []) })
+  pub of_authored : hits_bytes 2 (authored_ls ∷ [])
       ≡ 0x93 ∷ 0x00 ∷ 0x02 ∷ 0x91 ∷ 0x99 ∷ 0xd9 ∷ 0x20 ∷ (first_digits ++ 0xcf ∷ 0x17 ∷ 0x97 ∷ 0x9c ∷ 0xfe ∷ 0x36 ∷ 0x2a ∷ 0x00 ∷ 0x00 ∷ 0xcd ∷ 0x03 ∷ 0xe8 ∷ 0x00 ∷ 0xa2 ∷ 0x6c ∷ 0x73 ∷ 0xa1 ∷ 0x2f ∷ 0xa2 ∷ 0x73 ∷ 0x31 ∷ 0xa3 ∷ 0x68 ∷ 0x3a ∷ 0x75 ∷ 0xa2 ∷ 0x6d ∷ 0x65 ∷ [])
-  pub of_no_hits : plain_reply_bytes (record { front = 0; answer = plain_hit_list [] }) ≡ 0x93 ∷ 0x00 ∷ 0x00 ∷ 0x90 ∷ []
-  pub of_unknown_id : plain_reply_bytes (record { front = 3; answer = plain_unknown_id first_id }) ≡ 0x93 ∷ 0x02 ∷ 0x03 ∷ 0xd9 ∷ 0x20 ∷ first_digits
-  pub of_random_fault : plain_reply_bytes (record { front = 3; answer = plain_random_fault }) ≡ 0x92 ∷ 0x05 ∷ 0x03 ∷ []
-  pub of_taken_id : plain_reply_bytes (record { front = 3; answer = plain_id_taken first_id }) ≡ 0x93 ∷ 0x06 ∷ 0x03 ∷ 0xd9 ∷ 0x20 ∷ first_digits
-  pub of_no_memory : plain_reply_bytes (record { front = 3; answer = plain_no_memory }) ≡ 0x92 ∷ 0x08 ∷ 0x03 ∷ []
-  pub of_bad_request : plain_reply_bytes (record { front = 3; answer = plain_bad_request 1 }) ≡ 0x93 ∷ 0x09 ∷ 0x03 ∷ 0x01 ∷ []
-  pub refusals : map is_plain_refusal (plain_unknown_id 1 ∷ plain_random_fault ∷ plain_id_taken 1 ∷ plain_no_memory ∷ plain_bad_request 1 ∷ []) ≡ true ∷ true ∷ true ∷ true ∷ true ∷ []
-  pub no_refusals : map is_plain_refusal (plain_began_id 1 ∷ plain_stored_index 1 ∷ plain_hit_list [] ∷ []) ≡ false ∷ false ∷ false ∷ []
+  pub of_no_hits : hits_bytes 0 [] ≡ 0x93 ∷ 0x00 ∷ 0x00 ∷ 0x90 ∷ []
+  pub of_unknown_id : unknown_id_bytes 3 first_id ≡ 0x93 ∷ 0x02 ∷ 0x03 ∷ 0xd9 ∷ 0x20 ∷ first_digits
+  pub of_random_fault : random_fault_bytes 3 ≡ 0x92 ∷ 0x05 ∷ 0x03 ∷ []
+  pub of_taken_id : id_taken_bytes 3 first_id ≡ 0x93 ∷ 0x06 ∷ 0x03 ∷ 0xd9 ∷ 0x20 ∷ first_digits
+  pub of_no_memory : no_memory_bytes 3 ≡ 0x92 ∷ 0x08 ∷ 0x03 ∷ []
+  pub of_bad_request : bad_request_bytes 3 1 ≡ 0x93 ∷ 0x09 ∷ 0x03 ∷ 0x01 ∷ []
 
--- ---- steps and runs
-
-abbrev pub at_front : ℕ → PlainAnswer → PlainReply
-at_front front answer = record { front = front; answer = answer }
-
-abbrev pub used_by_start : Used
-used_by_start = record { readings = first_time ∷ []; drawn = ten_bytes; faults = 0 }
-
-abbrev pub used_by_end : Used
-used_by_end = record { readings = 5 ∷ []; drawn = []; faults = 0 }
-
-abbrev pub nothing_used : Used
-nothing_used = record { readings = []; drawn = []; faults = 0 }
-
-pub record WorkedSteps : Type 0 where
-  -- a Start at the empty journal, and the same at a journal with its id
-  pub begins : PlainStep [] start_payload used_by_start (at_front 1 (plain_began_id first_id)) (begun ls ∷ [])
-  pub begins_again : PlainStep (begun ls ∷ []) start_payload used_by_start (at_front 1 (plain_id_taken first_id)) (begun ls ∷ [])
-  pub begins_without_random : PlainStep (begun pwd ∷ []) start_payload (record { readings = first_time ∷ []; drawn = []; faults = 1 }) (at_front 1 plain_random_fault) (begun pwd ∷ [])
-  pub begins_without_memory : PlainStep (begun pwd ∷ []) start_payload used_by_start (at_front 1 plain_no_memory) (begun pwd ∷ [])
-  -- an End: the first and the second one that is stored, of a command that was never begun, and of one that has ended
-  pub ends : PlainStep (begun ls ∷ []) end_payload used_by_end (at_front 2 (plain_stored_index 0)) (begun ls ∷ ended ls_ended ∷ [])
-  pub ends_second : PlainStep (begun pwd ∷ ended pwd_ended ∷ begun ls ∷ []) end_payload used_by_end (at_front 4 (plain_stored_index 1)) (begun pwd ∷ ended pwd_ended ∷ begun ls ∷ ended ls_ended ∷ [])
-  pub ends_unbegun : PlainStep (begun pwd ∷ []) end_payload used_by_end (at_front 1 (plain_unknown_id first_id)) (begun pwd ∷ [])
-  pub ends_again : PlainStep (begun ls ∷ ended ls_ended ∷ []) end_payload used_by_end (at_front 2 (plain_unknown_id first_id)) (begun ls ∷ ended ls_ended ∷ [])
-  pub ends_without_memory : PlainStep (begun ls ∷ []) end_payload used_by_end (at_front 1 plain_no_memory) (begun ls ∷ [])
-  -- a Search shows what has ended, and uses nothing
-  pub searches : PlainStep one_running all_payload nothing_used (at_front 3 (plain_hit_list (ls_ended ∷ []))) one_running
-  pub searches_without_memory : PlainStep one_running all_payload nothing_used (at_front 3 plain_no_memory) one_running
-  pub no_call : PlainStep (begun ls ∷ []) (0x91 ∷ 0x63 ∷ []) nothing_used (at_front 1 (plain_bad_request 1)) (begun ls ∷ [])
-
-pub record WorkedWants : Type 0 where
-  -- want of memory is told only where the call would have been done: not of an id that is taken, never begun, or ended
-  pub of_taken : (new : List JournalEntry) → PlainStep (begun ls ∷ []) start_payload used_by_start (at_front 1 plain_no_memory) new → ⊥
-  pub of_unbegun : (new : List JournalEntry) → PlainStep (begun pwd ∷ []) end_payload used_by_end (at_front 1 plain_no_memory) new → ⊥
-  pub of_ended : (new : List JournalEntry) → PlainStep (begun ls ∷ ended ls_ended ∷ []) end_payload used_by_end (at_front 2 plain_no_memory) new → ⊥
-  -- and with the same use of the outside as else: a Start and an End read the clock, and a Search uses nothing
-  pub start_unread : (new : List JournalEntry) → PlainStep [] start_payload nothing_used (at_front 0 plain_no_memory) new → ⊥
-  pub end_unread : (new : List JournalEntry) → PlainStep (begun ls ∷ []) end_payload nothing_used (at_front 1 plain_no_memory) new → ⊥
-  pub search_read : (new : List JournalEntry) → PlainStep [] all_payload used_by_end (at_front 0 plain_no_memory) new → ⊥
-  -- the journal stays
-  pub stays : (new : List JournalEntry) → PlainStep [] all_payload nothing_used (at_front 0 plain_no_memory) new → new ≡ []
-  -- a Start of nine bytes is answered in no way
-  pub nine_bytes : (reply : PlainReply) (new : List JournalEntry) → PlainStep [] start_payload (record { readings = first_time ∷ []; drawn = replicate 9 0; faults = 0 }) reply new → ⊥
-
--- the command is begun, ended and searched for
-abbrev pub three_replies : List PlainReply
-three_replies = at_front 1 (plain_began_id first_id) ∷ at_front 2 (plain_stored_index 0) ∷ at_front 2 (plain_hit_list (ls_ended ∷ [])) ∷ []
-
-abbrev pub used_by_three : Used
-used_by_three = record { readings = first_time ∷ 5 ∷ []; drawn = ten_bytes; faults = 0 }
+-- ---- what is used
 
 pub record WorkedRuns : Type 0 where
-  pub nothing : Run (begun ls ∷ []) [] nothing_used [] (begun ls ∷ [])
-  pub three : Run [] (start_payload ∷ end_payload ∷ all_payload ∷ []) used_by_three three_replies (begun ls ∷ ended ls_ended ∷ [])
-  -- the frames of the three replies
-  pub written : frames (map plain_reply_bytes three_replies)
-      ≡ 0x00 ∷ 0x00 ∷ 0x00 ∷ 0x25 ∷ 0x93 ∷ 0x00 ∷ 0x01 ∷ 0xd9 ∷ 0x20 ∷ (first_digits ++ 0x00 ∷ 0x00 ∷ 0x00 ∷ 0x04 ∷ 0x93 ∷ 0x00 ∷ 0x02 ∷ 0x00 ∷ 0x00 ∷ 0x00 ∷ 0x00 ∷ 0x40 ∷ 0x93 ∷ 0x00 ∷ 0x02 ∷ 0x91 ∷ 0x98 ∷ 0xd9 ∷ 0x20
-      ∷ (first_digits ++ 0xcf ∷ 0x17 ∷ 0x97 ∷ 0x9c ∷ 0xfe ∷ 0x36 ∷ 0x2a ∷ 0x00 ∷ 0x00 ∷ 0xcd ∷ 0x03 ∷ 0xe8 ∷ 0x00 ∷ 0xa2 ∷ 0x6c ∷ 0x73 ∷ 0xa1 ∷ 0x2f ∷ 0xa2 ∷ 0x73 ∷ 0x31 ∷ 0xa3 ∷ 0x68 ∷ 0x3a ∷ 0x75 ∷ []))
-  pub split : IsSplitRun [] (start_payload ∷ []) (end_payload ∷ all_payload ∷ []) used_by_three three_replies (begun ls ∷ ended ls_ended ∷ [])
-  -- a run of nothing uses nothing and leaves the journal, and no reply is missing or left over
-  pub nothing_is_used : (new : List JournalEntry) → Run [] [] used_by_end [] new → ⊥
-  pub journal_stays : (used : Used) → Run [] [] used [] (begun ls ∷ []) → ⊥
-  pub reply_missing : (used : Used) (new : List JournalEntry) → Run [] (all_payload ∷ []) used [] new → ⊥
-  pub reply_left : (used : Used) (reply : PlainReply) (new : List JournalEntry) → Run [] [] used (reply ∷ []) new → ⊥
   -- first of the one and then of the other, and faults are added
   pub together : then_used (record { readings = 1 ∷ []; drawn = 2 ∷ []; faults = 3 }) (record { readings = 4 ∷ []; drawn = 5 ∷ []; faults = 6 }) ≡ record { readings = 1 ∷ 4 ∷ []; drawn = 2 ∷ 5 ∷ []; faults = 9 }
   pub fits : UsedFits (record { readings = 18446744073709551615 ∷ []; drawn = 255 ∷ []; faults = 0 })
   pub time_above : UsedFits (record { readings = 18446744073709551616 ∷ []; drawn = []; faults = 0 }) → ⊥
   pub no_byte : UsedFits (record { readings = []; drawn = 256 ∷ []; faults = 0 }) → ⊥
-  pub faults : random_faults (at_front 0 plain_random_fault ∷ at_front 0 plain_no_memory ∷ at_front 0 (plain_began_id 1) ∷ at_front 0 (plain_stored_index 1) ∷ at_front 0 (plain_hit_list []) ∷ at_front 0 (plain_unknown_id 1) ∷ at_front 0 (plain_id_taken 1) ∷ at_front 0 (plain_bad_request 1) ∷ at_front 0 plain_random_fault ∷ []) ≡ 2

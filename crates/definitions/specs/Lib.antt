@@ -6,7 +6,6 @@ pub mod Journal
 pub mod Search
 pub mod Replies
 pub mod Step
-pub mod Runs
 pub mod Reading
 pub mod Examples
 pub mod Counts

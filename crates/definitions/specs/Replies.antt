@@ -1,36 +1,10 @@
 -- Replies and their bytes: an array of 0, the front and the answer's item, or of the refusal's number, the front and its
 -- values. The front is the number of entries of the journal at which the call was answered.
-use Rattle.std.specs.Prelude.{ℕ, pos, List, [], ◌++◌, length, Option, Some, None, Bool, true, false}
+use Rattle.std.specs.Prelude.{ℕ, pos, List, [], ◌++◌, length, Option, Some, None}
 use Rattle.std.specs.List.{flat_map}
 use Rattle.definitions.specs.Spelling.{written_integer, written_text, written_array}
 use Rattle.definitions.specs.Ids.{id_text}
 use Rattle.definitions.specs.Journal.{HistoryRecord}
-
-pub data PlainAnswer : Type 0 where
-  -- the id of the command that was begun
-  plain_began_id : ℕ → PlainAnswer
-  -- the index of the record that was stored, from 0
-  plain_stored_index : ℕ → PlainAnswer
-  plain_hit_list : List HistoryRecord → PlainAnswer
-  plain_unknown_id : ℕ → PlainAnswer
-  plain_random_fault : PlainAnswer
-  plain_id_taken : ℕ → PlainAnswer
-  plain_no_memory : PlainAnswer
-  plain_bad_request : ℕ → PlainAnswer
-
-abbrev pub is_plain_refusal : PlainAnswer → Bool
-is_plain_refusal (plain_began_id id) = false
-is_plain_refusal (plain_stored_index index) = false
-is_plain_refusal (plain_hit_list hits) = false
-is_plain_refusal (plain_unknown_id id) = true
-is_plain_refusal plain_random_fault = true
-is_plain_refusal (plain_id_taken id) = true
-is_plain_refusal plain_no_memory = true
-is_plain_refusal (plain_bad_request place) = true
-
-pub record PlainReply : Type 0 where
-  pub front : ℕ
-  pub answer : PlainAnswer
 
 abbrev pub written_number : ℕ → List ℕ
 written_number n = written_integer (pos n)
@@ -84,16 +58,3 @@ no_memory_bytes front = refusal_bytes 8 front
 
 abbrev pub bad_request_bytes : ℕ → ℕ → List ℕ
 bad_request_bytes front place = refusal_of_bytes 9 front (written_number place)
-
-abbrev pub plain_answer_bytes : ℕ → PlainAnswer → List ℕ
-plain_answer_bytes front (plain_began_id id) = began_bytes front id
-plain_answer_bytes front (plain_stored_index index) = stored_bytes front index
-plain_answer_bytes front (plain_hit_list hits) = hits_bytes front hits
-plain_answer_bytes front (plain_unknown_id id) = unknown_id_bytes front id
-plain_answer_bytes front plain_random_fault = random_fault_bytes front
-plain_answer_bytes front (plain_id_taken id) = id_taken_bytes front id
-plain_answer_bytes front plain_no_memory = no_memory_bytes front
-plain_answer_bytes front (plain_bad_request place) = bad_request_bytes front place
-
-abbrev pub plain_reply_bytes : PlainReply → List ℕ
-plain_reply_bytes reply = plain_answer_bytes reply.front reply.answer

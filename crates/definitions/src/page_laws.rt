@@ -1,9 +1,11 @@
-//! The laws of pages, over any item and its weight. Each is a function that does nothing, whose contract is the law.
+//! The laws of pages, over any item and its weight, and of searches, whose hits are cut to a page. Each is a function
+//! that does nothing, whose contract is the law.
 
 ghost use Rattle.std.specs.Prelude.{◌≡◌, ℕ, ◌+◌, ◌<◌, ◌≤◌, ◌⊎◌, List, map, length, take, slice_index_or};
 ghost use Rattle.std.specs.List.{sum_by};
 ghost use Rattle.definitions.specs.Limits.{most_shown_bytes};
-ghost use Rattle.definitions.specs.Search.{FitsPage, IsPage};
+ghost use Rattle.definitions.specs.Journal.{HistoryRecord, HaveDistinctIds};
+ghost use Rattle.definitions.specs.Search.{FitsPage, IsPage, IsAnswer};
 ghost use Rattle.definitions.specs.Pages.{longest_within, IsLongestWithin};
 
 /// A page is cut by counting: it goes on as long as the next item fits, and stops where there are as many as may be, where
@@ -24,4 +26,9 @@ pub fn a_page_is_one_as_it_is_seen<A, X>()
 /// The items that are taken one by one while they weigh no more than a limit are the longest prefix within it.
 pub fn a_prefix_within_a_weight_is_the_longest<X>()
     ensures { (weight_of : X → ℕ) (weight : ℕ) (items : List X) → IsLongestWithin weight_of weight items (longest_within weight_of weight items) }
+{}
+
+/// Over commands with ids of their own a search has at most one answer.
+pub fn a_search_has_one_answer()
+    ensures { (offset limit : ℕ) (entries page other : List HistoryRecord) → HaveDistinctIds (λ (h : HistoryRecord). h.id) entries → IsAnswer offset limit entries page → IsAnswer offset limit entries other → page ≡ other }
 {}

@@ -1,6 +1,6 @@
 //! The definitions worked out. Each is a function that does nothing, whose contract is a list of values.
 
-ghost use Rattle.definitions.specs.Examples.{WorkedIntegers, WorkedTexts, WorkedArrays, WorkedNoItems, WorkedFrames, WorkedStreams, WorkedIds, WorkedCalls, WorkedFaults, WorkedJournals, WorkedMatches, WorkedSearches, WorkedReplies, WorkedSteps, WorkedWants, WorkedRuns};
+ghost use Rattle.definitions.specs.Examples.{WorkedIntegers, WorkedTexts, WorkedArrays, WorkedNoItems, WorkedFrames, WorkedStreams, WorkedIds, WorkedJournals, WorkedMatches, WorkedSearches, WorkedReplies, WorkedRuns};
 
 /// Integers, worked out: the first and the last number of each form, and numbers in several widths.
 pub fn worked_integers()
@@ -37,17 +37,7 @@ pub fn worked_ids()
     ensures { WorkedIds }
 {}
 
-/// Payloads of each call, worked out, and an id that none can have.
-pub fn worked_calls()
-    ensures { WorkedCalls }
-{}
-
-/// Payloads that are wrong, worked out, each with its place.
-pub fn worked_faults()
-    ensures { WorkedFaults }
-{}
-
-/// Journals, worked out: what was begun and has ended, one that is sound, and some that are not.
+/// Commands, worked out: what is kept of one that ends, and ids of their own.
 pub fn worked_journals()
     ensures { WorkedJournals }
 {}
@@ -67,17 +57,7 @@ pub fn worked_replies()
     ensures { WorkedReplies }
 {}
 
-/// Steps, worked out, one for each way of answering.
-pub fn worked_steps()
-    ensures { WorkedSteps }
-{}
-
-/// Where want of memory is no answer, worked out.
-pub fn worked_wants()
-    ensures { WorkedWants }
-{}
-
-/// A run of a Start, an End and a Search, worked out, and what is no run.
+/// What is used by one call and then by another, worked out, and what fits.
 pub fn worked_runs()
     ensures { WorkedRuns }
 {}

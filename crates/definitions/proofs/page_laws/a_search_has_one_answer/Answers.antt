@@ -1,5 +1,5 @@
 use Rattle.definitions.proofs.Search.{IsAnswer-one}
-use Rattle.definitions.proofs.run_laws.a_search_has_one_answer.Goals as goal
+use Rattle.definitions.proofs.page_laws.a_search_has_one_answer.Goals as goal
 
 pub returns : goal.returns
 returns c = IsAnswer-one

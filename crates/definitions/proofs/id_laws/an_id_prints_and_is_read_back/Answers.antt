@@ -1,7 +1,7 @@
 use Rattle.std.proofs.Common.{ap, ◌∙◌}
 use Rattle.definitions.specs.Reading.{is_id_text, id_value}
 use Rattle.definitions.proofs.Ids.{id_text-length, id_text-ascii, id_text-utf8, id_value-id_text, id_text-one, is_id_text-found, is_id_text-id_text}
-use Rattle.definitions.proofs.call_laws.an_id_prints_and_is_read_back.Goals as goal
+use Rattle.definitions.proofs.id_laws.an_id_prints_and_is_read_back.Goals as goal
 
 pub returns-clause-digits : goal.returns-clause-digits
 returns-clause-digits c = λ id. (id_text-length id, id_text-ascii id, id_text-utf8 id)

@@ -1,5 +1,5 @@
 use Rattle.definitions.proofs.Ids.{made_id-fits, made_id-version, made_id-variant}
-use Rattle.definitions.proofs.call_laws.a_made_id_is_of_version_7.Goals as goal
+use Rattle.definitions.proofs.id_laws.a_made_id_is_of_version_7.Goals as goal
 
 pub returns-clause-fits : goal.returns-clause-fits
 returns-clause-fits c = made_id-fits

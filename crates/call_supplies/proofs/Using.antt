@@ -3,8 +3,8 @@ use Rattle.std.proofs.Common.{ℕ, ◌<◌, ◌^◌, List, [], ◌∷◌, arith}
 use Rattle.std.proofs.lemmas.List.Elements.{All-nil, All-cons}
 use Rattle.definitions.specs.Spelling.{IsBytes}
 use Rattle.definitions.specs.Counts.{Rose}
-use Rattle.definitions.specs.Step.{Used, used_nothing, read_clock, read_and_drew, read_and_failed, UsedFits}
-use Rattle.definitions.proofs.Runs.{UsedFits-nothing}
+use Rattle.definitions.specs.Uses.{Used, used_nothing, read_clock, read_and_drew, read_and_failed, UsedFits}
+use Rattle.definitions.proofs.Uses.{UsedFits-nothing}
 use Rattle.definitions.proofs.Counts.{RoseBy-nothing}
 use Rattle.at_edge.specs.Drawing.{EntropySeen, Drew}
 use Rattle.at_edge.specs.Telling.{ClockSeen, Told}

@@ -2,7 +2,7 @@
 use Rattle.std.specs.Prelude.{ℕ, ◌<◌, ◌^◌, List, []}
 use Rattle.definitions.specs.Spelling.{IsBytes}
 use Rattle.definitions.specs.Counts.{Rose}
-use Rattle.definitions.specs.Step.{Used, used_nothing, read_clock, read_and_drew, read_and_failed}
+use Rattle.definitions.specs.Uses.{Used, used_nothing, read_clock, read_and_drew, read_and_failed}
 use Rattle.at_edge.specs.Drawing.{EntropySeen, Drew}
 use Rattle.at_edge.specs.Telling.{ClockSeen, Told}
 use Rattle.call_supplies.specs.Supplies.{Supplies, supplies, UsesRandom, Uses}

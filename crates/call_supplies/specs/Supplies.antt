@@ -1,6 +1,6 @@
 -- What calls use of the random source and of the clock.
 use Rattle.definitions.specs.Counts.{RoseBy}
-use Rattle.definitions.specs.Step.{Used, UsedFits}
+use Rattle.definitions.specs.Uses.{Used, UsedFits}
 use Rattle.at_edge.specs.Drawing.{EntropySeen, Drew}
 use Rattle.at_edge.specs.Telling.{ClockSeen, Told}
 

@@ -15,7 +15,7 @@ use Rattle.definitions.specs.Ids.{id_text}
 use Rattle.definitions.specs.Reading.{array_at, integer_at, text_head_at, text_at}
 use Rattle.definitions.specs.Journal.{HistoryRecord}
 use Rattle.definitions.specs.Search.{is_shown_before, hit_bytes}
-use Rattle.definitions.specs.Examples.{WorkedIntegers, WorkedTexts, WorkedArrays, WorkedNoItems, WorkedFrames, WorkedStreams, WorkedIds, first_id, ls_ended, pwd_ended, WorkedJournals, hit_at, three_ended, WorkedMatches, WorkedSearches, WorkedReplies, WorkedRuns}
+use Rattle.definitions.specs.Examples.{WorkedIntegers, WorkedTexts, WorkedArrays, WorkedNoItems, WorkedFrames, WorkedStreams, WorkedIds, first_id, ls_ended, pwd_ended, WorkedCommands, hit_at, three_ended, WorkedMatches, WorkedSearches, WorkedReplies, WorkedUses}
 use Rattle.definitions.proofs.Search.{whole_page}
 use Rattle.definitions.proofs.Items.{both_true}
 use Rattle.definitions.proofs.Spelling.{integer_again, text_again, array_again}
@@ -189,7 +189,7 @@ ids = record { made = refl; of_ones = refl; early = refl; printed = refl; ten = 
 
 -- ---- commands
 
-pub journals : WorkedJournals
+pub journals : WorkedCommands
 unfolding IsDistinct
 journals = record { kept = refl; own_ids = ((refl, tt), (tt, tt)); one_id_twice = λ own. let e : true ≡ false = own.0.1.0 in absurd cc }
 
@@ -281,7 +281,7 @@ replies_worked = record {
 
 -- ---- what is used
 
-pub runs : WorkedRuns
+pub runs : WorkedUses
 runs = record {
   together = refl;
   fits = (All-cons (λ (now : ℕ). now < 18446744073709551616) 18446744073709551615 [] (omega arith) (All-nil (λ (now : ℕ). now < 18446744073709551616)), are_bytes (255 ∷ []) refl);

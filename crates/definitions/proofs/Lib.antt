@@ -1,6 +1,6 @@
 pub mod Bytes
 pub mod Spelling
-pub mod Runs
+pub mod Uses
 pub mod Frames
 pub mod Ids
 pub mod Items

@@ -8,7 +8,7 @@ use Rattle.definitions.specs.Calls.{by_prefix, by_substring}
 use Rattle.definitions.specs.Journal.{StartedRecord, HistoryRecord, HaveDistinctIds, finished}
 use Rattle.definitions.specs.Search.{compared, matches_by, is_shown_before, hit_bytes, FitsPage, IsPage, IsAnswer}
 use Rattle.definitions.specs.Replies.{began_bytes, stored_bytes, hits_bytes, unknown_id_bytes, random_fault_bytes, id_taken_bytes, no_memory_bytes, bad_request_bytes}
-use Rattle.definitions.specs.Step.{then_used, UsedFits}
+use Rattle.definitions.specs.Uses.{then_used, UsedFits}
 
 -- ---- items
 
@@ -182,7 +182,7 @@ pwd = record { id = 7; timestamp = 20; command = codes "pwd"; cwd = codes "/"; s
 abbrev pub pwd_ended : HistoryRecord
 pwd_ended = record { id = 7; timestamp = 20; duration = pos 3; exit = pos 0; command = codes "pwd"; cwd = codes "/"; session = codes "s1"; hostname = codes "h:u"; deleted_at = None; author = None }
 
-pub record WorkedJournals : Type 0 where
+pub record WorkedCommands : Type 0 where
   pub kept : finished ls (pos 1000) (pos 0) None ≡ ls_ended
   -- an id twice, one behind the other or further on
   pub own_ids : HaveDistinctIds (λ (s : StartedRecord). s.id) (ls ∷ pwd ∷ [])
@@ -266,7 +266,7 @@ pub record WorkedReplies : Type 0 where
 
 -- ---- what is used
 
-pub record WorkedRuns : Type 0 where
+pub record WorkedUses : Type 0 where
   -- first of the one and then of the other, and faults are added
   pub together : then_used (record { readings = 1 ∷ []; drawn = 2 ∷ []; faults = 3 }) (record { readings = 4 ∷ []; drawn = 5 ∷ []; faults = 6 }) ≡ record { readings = 1 ∷ 4 ∷ []; drawn = 2 ∷ 5 ∷ []; faults = 9 }
   pub fits : UsedFits (record { readings = 18446744073709551615 ∷ []; drawn = 255 ∷ []; faults = 0 })

@@ -5,7 +5,7 @@ pub mod Ids
 pub mod Journal
 pub mod Search
 pub mod Replies
-pub mod Step
+pub mod Uses
 pub mod Reading
 pub mod Examples
 pub mod Counts

@@ -4,7 +4,7 @@
 //! where one that spells none goes wrong (`Calls`), how a stream is cut into frames (`Frames`), how an id is made and
 //! printed (`Ids`), what is told of a command (`Journal`), how a search matches, orders and cuts (`Search`), which prefix
 //! of some items weighs so much (`Pages`), which limits hold (`Limits`), what a reply's bytes are (`Replies`), what a call
-//! uses of the outside (`Step`), how a count of faults moves (`Counts`), and how one list begins another (`Prefixes`).
+//! uses of the outside (`Uses`), how a count of faults moves (`Counts`), and how one list begins another (`Prefixes`).
 //! `Reading` reads from left to right, as code does; nothing rests on it alone.
 //! `Examples` works the words out.
 //! No word names a type of the crates above: each mirrors what it needs by a small record of numbers and lists.
@@ -30,6 +30,6 @@ pub use spelling_laws::{
     what_is_written_is_spelled,
 };
 pub use worked::{
-    worked_arrays, worked_frames, worked_ids, worked_integers, worked_journals, worked_matches,
-    worked_no_items, worked_replies, worked_runs, worked_searches, worked_streams, worked_texts,
+    worked_arrays, worked_commands, worked_frames, worked_ids, worked_integers, worked_matches,
+    worked_no_items, worked_replies, worked_searches, worked_streams, worked_texts, worked_uses,
 };

@@ -1,6 +1,6 @@
 //! The definitions worked out. Each is a function that does nothing, whose contract is a list of values.
 
-ghost use Rattle.definitions.specs.Examples.{WorkedIntegers, WorkedTexts, WorkedArrays, WorkedNoItems, WorkedFrames, WorkedStreams, WorkedIds, WorkedJournals, WorkedMatches, WorkedSearches, WorkedReplies, WorkedRuns};
+ghost use Rattle.definitions.specs.Examples.{WorkedIntegers, WorkedTexts, WorkedArrays, WorkedNoItems, WorkedFrames, WorkedStreams, WorkedIds, WorkedCommands, WorkedMatches, WorkedSearches, WorkedReplies, WorkedUses};
 
 /// Integers, worked out: the first and the last number of each form, and numbers in several widths.
 pub fn worked_integers()
@@ -38,8 +38,8 @@ pub fn worked_ids()
 {}
 
 /// Commands, worked out: what is kept of one that ends, and ids of their own.
-pub fn worked_journals()
-    ensures { WorkedJournals }
+pub fn worked_commands()
+    ensures { WorkedCommands }
 {}
 
 /// Matches, worked out: smart case, both ways to compare, and the order of hits.
@@ -58,6 +58,6 @@ pub fn worked_replies()
 {}
 
 /// What is used by one call and then by another, worked out, and what fits.
-pub fn worked_runs()
-    ensures { WorkedRuns }
+pub fn worked_uses()
+    ensures { WorkedUses }
 {}

@@ -1,7 +1,6 @@
 -- A call that is told of a store is one turn of a store that nobody else has.
-use Rattle.std.proofs.Common.{◌≡◌, ℕ, ◌≤◌, true, List, [], ◌∷◌, ◌++◌, length, Option, Some, None, refl, sym, ap, ◌∙◌, append-nil, subst, arith}
+use Rattle.std.proofs.Common.{◌≡◌, ℕ, ◌≤◌, true, List, [], ◌∷◌, ◌++◌, length, Option, Some, None, refl, sym, ap, ◌∙◌, append-nil, arith}
 use Rattle.std.specs.Option.{unwrap_or, is_some}
-use Rattle.record_rules.specs.Records.{Entry}
 use Rattle.step_rules.specs.Calls.{Call}
 use Rattle.step_rules.specs.Answers.{Reply}
 use Rattle.step_rules.specs.Sealing.{keyed_store}
@@ -12,7 +11,7 @@ use Rattle.call_supplies.specs.Supplies.{Supplies}
 use Rattle.session_seats.specs.Stores.{HasTurn, FrontTold}
 use Rattle.session_seats.specs.Answering.{AnswersCall}
 use Rattle.store_core.specs.Store as core
-use Rattle.told_store.specs.Told.{ToldSeen, CallTold, HasRested, AddsTurn, keyed_by}
+use Rattle.told_store.specs.Told.{ToldSeen, CallTold, HasRested, AddsTurn}
 use Rattle.lone_store.specs.Lone.{lone_fixed, lone_seen}
 
 -- what never changes

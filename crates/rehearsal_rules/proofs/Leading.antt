@@ -2,7 +2,7 @@
 use Rattle.std.proofs.Common.{◌≡◌, ℕ, ◌+◌, ◌-◌, ◌<◌, ◌≤◌, List, [], ◌∷◌, ◌++◌, length, Ok, refl, sym, ap, subst, arith}
 use Rattle.std.specs.Prelude.{⊤}
 use Rattle.std.specs.List.{AllByRecursion}
-use Rattle.definitions.specs.Step.{read_and_drew}
+use Rattle.definitions.specs.Uses.{read_and_drew}
 use Rattle.record_rules.specs.Records.{Caller, Entry}
 use Rattle.record_rules.specs.Journal.{ChainPlace}
 use Rattle.record_rules.specs.Growth.{grow, grown}

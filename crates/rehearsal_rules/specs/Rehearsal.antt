@@ -4,7 +4,7 @@ use Rattle.std.specs.List.{range_with_len}
 use Rattle.std.specs.Int.{w64, to_be_bytes}
 use Rattle.definitions.specs.Calls.{by_prefix}
 use Rattle.definitions.specs.Journal.{HistoryRecord}
-use Rattle.definitions.specs.Step.{read_and_drew}
+use Rattle.definitions.specs.Uses.{read_and_drew}
 use Rattle.record_rules.specs.Records.{Caller, Entry}
 use Rattle.view_rules.specs.Answers.{of_all, ScopedQuery, SearchAnswer}
 use Rattle.step_rules.specs.Calls.{Call, start_call, end_call, delete_call, kv_set_call, alias_set_call, alias_delete_call, CallFits}

@@ -7,7 +7,7 @@ use Rattle.std.proofs.lemmas.Bool.{cases_Bool, ltb-true, ne_eqb}
 use Rattle.std.proofs.lemmas.List.{append-nil, drop_at}
 use Rattle.std.proofs.lemmas.List.Elements.{All-append, All-take, All-drop, All-weaker}
 use Rattle.definitions.specs.Counts.{RoseBy, has_risen}
-use Rattle.definitions.specs.Step.{Used, then_used}
+use Rattle.definitions.specs.Uses.{Used, then_used}
 use Rattle.definitions.proofs.Counts.{has_risen-true, Rose-has_risen}
 use Rattle.definitions.proofs.Prefixes.{prefix-of, prefix-then, longer-prefix}
 use Rattle.record_rules.specs.Records.{Caller, Entry}

@@ -9,8 +9,8 @@ use Rattle.definitions.specs.Counts.{last_count, Rose, RoseBy}
 use Rattle.definitions.specs.Spelling.{shortest_text, text_head, written_text, written_array}
 use Rattle.definitions.specs.Replies.{written_number, ok_bytes}
 use Rattle.definitions.specs.Ids.{id_text, made_id}
-use Rattle.definitions.specs.Step.{Used, used_nothing, read_clock, read_and_drew, read_and_failed}
-use Rattle.definitions.proofs.Runs.{then_used-nothing}
+use Rattle.definitions.specs.Uses.{Used, used_nothing, read_clock, read_and_drew, read_and_failed}
+use Rattle.definitions.proofs.Uses.{then_used-nothing}
 use Rattle.definitions.specs.Examples.{first_time, ten_bytes}
 use Rattle.record_rules.specs.Records.{Caller, Entry}
 use Rattle.record_rules.specs.Growth.{PageGap, taken_entry}

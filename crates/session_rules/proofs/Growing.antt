@@ -4,8 +4,8 @@ use Rattle.std.specs.Prelude.{All}
 use Rattle.std.proofs.lemmas.Bool.{true≢false, eq-eqb, ne_eqb}
 use Rattle.std.proofs.lemmas.List.{append-nil, append_cancel_left, take_at}
 use Rattle.std.proofs.lemmas.List.Elements.{filter-append, All-map, All-weaker}
-use Rattle.definitions.specs.Step.{Used, used_nothing, then_used}
-use Rattle.definitions.proofs.Runs.{then_used-nothing}
+use Rattle.definitions.specs.Uses.{Used, used_nothing, then_used}
+use Rattle.definitions.proofs.Uses.{then_used-nothing}
 use Rattle.record_rules.specs.Records.{SealedRecord, Caller, Entry}
 use Rattle.record_rules.specs.Journal.{own_events, records_of}
 use Rattle.record_rules.specs.Growth.{fresh_of, first_refusal, taken_entry, grow}

@@ -4,7 +4,7 @@ use Rattle.std.specs.Prelude.{slice_get, All}
 use Rattle.std.specs.List.{Contains}
 use Rattle.std.proofs.lemmas.Bool.{true≢false}
 use Rattle.std.proofs.lemmas.List.Elements.{All-nil, All-cons, All-head, All-tail}
-use Rattle.definitions.specs.Step.{Used, used_nothing, then_used}
+use Rattle.definitions.specs.Uses.{Used, used_nothing, then_used}
 use Rattle.record_rules.specs.Records.{Caller, Entry}
 use Rattle.record_rules.specs.Growth.{PageTooLong, PageForked, PageGap, PageFull}
 use Rattle.step_rules.specs.Store.{KeyedStore}

@@ -3,7 +3,7 @@ use Rattle.std.proofs.Common.{◌≡◌, ℕ, true, false, Some, None, Option, L
 use Rattle.std.proofs.lemmas.Bool.{true≢false}
 use Rattle.std.proofs.lemmas.Option.{none-some, same_Some}
 use Rattle.std.proofs.lemmas.List.{append-nil, length-map}
-use Rattle.definitions.specs.Step.{Used}
+use Rattle.definitions.specs.Uses.{Used}
 use Rattle.record_rules.specs.Records.{SealedRecord, Caller, Entry}
 use Rattle.record_rules.specs.Journal.{own_events, records_of}
 use Rattle.record_rules.specs.Growth.{PageRefusal, fresh_of, first_refusal, taken_entry, batch_or, grow, grown}

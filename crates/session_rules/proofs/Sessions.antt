@@ -7,8 +7,8 @@ use Rattle.std.proofs.lemmas.Option.{none-some, same_Some}
 use Rattle.std.proofs.lemmas.List.{append-nil, take-append-le, length-map, map-append}
 use Rattle.std.proofs.lemmas.List.Elements.{filter-append}
 use Rattle.std.proofs.lemmas.Grind.{flat_map-append}
-use Rattle.definitions.specs.Step.{Used, used_nothing, then_used}
-use Rattle.definitions.proofs.Runs.{then_used-assoc, nothing-then_used}
+use Rattle.definitions.specs.Uses.{Used, used_nothing, then_used}
+use Rattle.definitions.proofs.Uses.{then_used-assoc, nothing-then_used}
 use Rattle.record_rules.specs.Records.{Caller, Entry}
 use Rattle.record_rules.specs.Growth.{grow}
 use Rattle.record_rules.proofs.Members.{Has}

@@ -2,7 +2,7 @@
 use Rattle.std.proofs.Common.{◌≡◌, ℕ, true, false, List, [], take, refl, sym, ◌∙◌, ap}
 use Rattle.std.proofs.lemmas.Bool.{true≢false}
 use Rattle.std.proofs.lemmas.List.{append-nil, append_cancel_left}
-use Rattle.definitions.specs.Step.{Used}
+use Rattle.definitions.specs.Uses.{Used}
 use Rattle.record_rules.specs.Records.{Caller, Entry}
 use Rattle.step_rules.specs.Calls.{Call}
 use Rattle.step_rules.specs.Answers.{Answer}

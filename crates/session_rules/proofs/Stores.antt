@@ -3,7 +3,7 @@ use Rattle.std.proofs.Common.{◌≡◌, ◌≢◌, ℕ, ◌+◌, true, false, i
 use Rattle.std.proofs.lemmas.Bool.{cases_Bool, true≢false}
 use Rattle.std.proofs.lemmas.List.{append-nil, length-map}
 use Rattle.definitions.specs.Counts.{RoseBy}
-use Rattle.definitions.specs.Step.{Used}
+use Rattle.definitions.specs.Uses.{Used}
 use Rattle.definitions.proofs.Counts.{RoseBy-nothing, RoseBy-then}
 use Rattle.record_rules.specs.Records.{SealedRecord, Caller, Entry}
 use Rattle.record_rules.specs.Growth.{PageRefusal, grow}
@@ -63,7 +63,7 @@ module _ (store : KeyedStore) (journal doubt : List Entry) (caller : Caller) (as
   page_end owner records given is told (short_page l _) = as_it_was l.journal_is l.doubt_is
   page_end owner records given is told (short_settled_page l _) = only_settling l.journal_is l.doubt_is
 
-  turn_end : TurnAnswers store journal doubt caller asked used after doubt_after answer → TurnEnd store journal doubt caller asked used after doubt_after answer
+  pub turn_end : TurnAnswers store journal doubt caller asked used after doubt_after answer → TurnEnd store journal doubt caller asked used after doubt_after answer
   turn_end (answers_call call reply is turn told) = call_end call reply is told turn
   turn_end (answers_unread _ _ _ l _) = as_it_was l.journal_is l.doubt_is
   turn_end (answers_bad _ _ _ l _) = as_it_was l.journal_is l.doubt_is

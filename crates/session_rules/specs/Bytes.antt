@@ -1,5 +1,5 @@
 -- Replies and their bytes: an array of 0, the front and the answer's item, or of the refusal's number, the front and its
--- values. Each integer is in its shortest form. What a plain journal answers too has the same bytes.
+-- values. Each integer is in its shortest form.
 use Rattle.std.specs.Prelude.{ℕ, List, ◌++◌, length, Option, Some, None}
 use Rattle.std.specs.List.{flat_map}
 use Rattle.definitions.specs.Spelling.{written_text, written_array}

@@ -2,7 +2,7 @@
 use Rattle.std.specs.Prelude.{◌≡◌, ℕ, ◌-◌, ◌≤◌, ◌^◌, length, pos, negsuc, List, [], ◌∷◌, ◌++◌, codes, map, Some, None, replicate, true, false, ◌⊎◌}
 use Rattle.definitions.specs.Counts.{last_count}
 use Rattle.definitions.specs.Ids.{made_id}
-use Rattle.definitions.specs.Step.{Used, used_nothing, read_clock, read_and_drew, read_and_failed}
+use Rattle.definitions.specs.Uses.{Used, used_nothing, read_clock, read_and_drew, read_and_failed}
 use Rattle.definitions.specs.Examples.{first_time, ten_bytes, ls}
 use Rattle.record_rules.specs.Records.{SealedRecord, Caller, Entry, Started}
 use Rattle.record_rules.specs.Growth.{PageTooLong, PageForked, PageGap, PageFull, taken_entry}

@@ -2,7 +2,7 @@
 -- whoever reads and writes them.
 use Rattle.std.specs.Prelude.{◌≡◌, ℕ, ◌+◌, List, [], ◌∷◌, length, slice_get, All, false, Option, Some, None, ⊤}
 use Rattle.std.specs.List.{Contains}
-use Rattle.definitions.specs.Step.{used_nothing}
+use Rattle.definitions.specs.Uses.{used_nothing}
 use Rattle.record_rules.specs.Records.{Entry}
 use Rattle.record_rules.specs.Growth.{PageRefusal, PageTooLong, PageForked, PageGap, PageFull}
 use Rattle.step_rules.specs.Calls.{is_read}

@@ -5,7 +5,7 @@ use Rattle.definitions.specs.Spelling.{IsBytes}
 use Rattle.definitions.specs.Counts.{RoseBy}
 use Rattle.definitions.specs.Prefixes.{IsPrefix}
 use Rattle.definitions.specs.Calls.{WrongAt}
-use Rattle.definitions.specs.Step.{Used, used_nothing, then_used}
+use Rattle.definitions.specs.Uses.{Used, used_nothing, then_used}
 use Rattle.record_rules.specs.Records.{Caller, Entry}
 use Rattle.record_rules.specs.Journal.{own_events, Sound}
 use Rattle.record_rules.specs.Answers.{OwnerAsked}

@@ -1,7 +1,7 @@
 -- What a session was asked, and what it answered, each at a point of one journal. Other sessions' entries may stand between its own.
 use Rattle.std.specs.Prelude.{◌≡◌, ℕ, ◌+◌, ◌≤◌, List, [], ◌∷◌, ◌++◌, length, map, take, filter, Bool, true, false, ◌==◌, Ok, Err, ⊤}
 use Rattle.std.specs.List.{flat_map}
-use Rattle.definitions.specs.Step.{Used, used_nothing, then_used, read_and_failed}
+use Rattle.definitions.specs.Uses.{Used, used_nothing, then_used, read_and_failed}
 use Rattle.record_rules.specs.Records.{SealedRecord, Caller, Entry}
 use Rattle.record_rules.specs.Growth.{PageRefusal, grow}
 use Rattle.step_rules.specs.Calls.{Call, is_read}

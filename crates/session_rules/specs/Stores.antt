@@ -1,7 +1,7 @@
 -- A store between two turns, and turns of it one after the other.
 use Rattle.std.specs.Prelude.{◌≡◌, ℕ, ◌≤◌, List, [], ◌∷◌, length, map, true, ⊤}
 use Rattle.definitions.specs.Counts.{Rose}
-use Rattle.definitions.specs.Step.{Used, used_nothing, then_used}
+use Rattle.definitions.specs.Uses.{Used, used_nothing, then_used}
 use Rattle.record_rules.specs.Records.{Caller, Entry}
 use Rattle.step_rules.specs.Store.{KeyedStore}
 use Rattle.step_rules.specs.Sealing.{Sealing, keyed_store}

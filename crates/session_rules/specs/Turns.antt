@@ -1,6 +1,6 @@
 -- What a store answers in one turn, whatever it is asked.
 use Rattle.std.specs.Prelude.{◌≡◌, ℕ, List, ◌⊎◌}
-use Rattle.definitions.specs.Step.{Used, used_nothing}
+use Rattle.definitions.specs.Uses.{Used, used_nothing}
 use Rattle.record_rules.specs.Records.{SealedRecord, Caller, Entry}
 use Rattle.step_rules.specs.Calls.{Call}
 use Rattle.step_rules.specs.Answers.{refused, no_memory, bad_request, Reply}

@@ -3,7 +3,7 @@ use Rattle.std.proofs.Common.{◌≡◌, ℕ, ◌-◌, false, inl, inr, Ok, Err,
 use Rattle.std.proofs.lemmas.Bool.{true≢false}
 use Rattle.std.proofs.lemmas.List.{length-append}
 use Rattle.std.specs.Int.{w32, to_be_bytes}
-use Rattle.definitions.specs.Step.{Used, used_nothing}
+use Rattle.definitions.specs.Uses.{Used, used_nothing}
 use Rattle.definitions.specs.Frames.{frame}
 use Rattle.step_rules.specs.Calls as asks
 use Rattle.step_rules.specs.Answers.{refused, no_memory, bad_request, Answer, began, stored, hits, value_is, keys, aliases, places, Reply}

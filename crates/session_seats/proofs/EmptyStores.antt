@@ -2,7 +2,7 @@
 use Rattle.std.proofs.Common.{◌≡◌, ℕ, ◌<◌, ◌≤◌, ◌^◌, ℤ, false, List, [], ◌∷◌, length, Option, None, refl, sym, subst, ◌∙◌, arith}
 use Rattle.std.proofs.lemmas.Bool.{true≢false}
 use Rattle.std.proofs.lemmas.List.Elements.{All-nil, All-cons}
-use Rattle.definitions.specs.Step.{Used, used_nothing, read_clock}
+use Rattle.definitions.specs.Uses.{Used, used_nothing, read_clock}
 use Rattle.definitions.proofs.Counts.{RoseBy-nothing}
 use Rattle.at_edge.specs.Drawing.{EntropySeen}
 use Rattle.at_edge.specs.Telling.{ClockSeen, Told}

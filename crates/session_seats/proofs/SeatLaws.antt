@@ -6,7 +6,7 @@ use Rattle.std.proofs.lemmas.List.{length-append, map-append}
 use Rattle.std.proofs.lemmas.List.Elements.{All-push, All-nil}
 use Rattle.definitions.specs.Limits.{most_payload_bytes}
 use Rattle.definitions.specs.Frames.{frame, frames}
-use Rattle.definitions.specs.Step.{Used, used_nothing, then_used}
+use Rattle.definitions.specs.Uses.{Used, used_nothing, then_used}
 use Rattle.definitions.proofs.Frames.{frames-more}
 use Rattle.definitions.proofs.Counts.{Rose-later}
 use Rattle.step_rules.specs.Answers.{Reply}

@@ -1,8 +1,8 @@
 -- One turn more at a lent store: its session, its run and its turns get longer by that reply.
 use Rattle.std.proofs.Common.{◌≡◌, ℕ, suc, ◌+◌, true, List, [], ◌∷◌, ◌++◌, length, map, Option, Some, None, refl, sym, ◌∙◌, ap, subst, append-nil, arith}
 use Rattle.std.proofs.lemmas.List.{map-append}
-use Rattle.definitions.specs.Step.{Used, used_nothing, then_used}
-use Rattle.definitions.proofs.Runs.{then_used-assoc, nothing-then_used, then_used-nothing}
+use Rattle.definitions.specs.Uses.{Used, used_nothing, then_used}
+use Rattle.definitions.proofs.Uses.{then_used-assoc, nothing-then_used, then_used-nothing}
 use Rattle.definitions.proofs.Counts.{Rose-has_risen}
 use Rattle.record_rules.specs.Records.{Entry}
 use Rattle.step_rules.specs.Answers.{Reply}

@@ -1,6 +1,6 @@
 -- Supplies of which nothing was used, and those that were used twice.
-use Rattle.definitions.specs.Step.{Used, used_nothing, then_used}
-use Rattle.definitions.proofs.Runs.{UsedFits-nothing, UsedFits-then}
+use Rattle.definitions.specs.Uses.{Used, used_nothing, then_used}
+use Rattle.definitions.proofs.Uses.{UsedFits-nothing, UsedFits-then}
 use Rattle.definitions.proofs.Counts.{RoseBy-nothing, RoseBy-then}
 use Rattle.at_edge.proofs.EntropyLaws.{Drew-nothing, Drew-then}
 use Rattle.at_edge.proofs.ClockLaws.{Told-nothing, Told-then}

@@ -1,7 +1,7 @@
 -- Where a reply may be too long for the room that is kept, its turn may tell of want of memory in its place.
 use Rattle.std.proofs.Common.{◌≡◌, ℕ, false, inr, List, [], refl, sym, ◌∙◌, ap, subst}
 use Rattle.std.proofs.lemmas.Bool.{true≢false}
-use Rattle.definitions.specs.Step.{Used}
+use Rattle.definitions.specs.Uses.{Used}
 use Rattle.record_rules.specs.Records.{Caller, Entry}
 use Rattle.step_rules.specs.Calls.{Call, is_read}
 use Rattle.step_rules.specs.Answers.{refused, random_fault, disk_fault, no_memory, Answer, Reply}

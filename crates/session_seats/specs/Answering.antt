@@ -1,7 +1,7 @@
 -- What a payload asks, and what it is answered.
 use Rattle.std.specs.Prelude.{◌≡◌, ◌⊎◌, ℕ, List, ◌++◌}
 use Rattle.definitions.specs.Frames.{frame}
-use Rattle.definitions.specs.Step.{Used}
+use Rattle.definitions.specs.Uses.{Used}
 use Rattle.step_rules.specs.Answers.{refused, no_memory, bad_request, Reply}
 use Rattle.step_rules.specs.Calls.{Call}
 use Rattle.session_rules.specs.Sessions.{Asked, a_call}

@@ -5,7 +5,7 @@ use Rattle.std.specs.Io.KnownBytes.{IsAtEnd}
 use Rattle.definitions.specs.Limits.{most_payload_bytes}
 use Rattle.definitions.specs.Frames.{frame, frames, named_length, CutFrame, LongFrame}
 use Rattle.definitions.specs.Counts.{Rose}
-use Rattle.definitions.specs.Step.{Used}
+use Rattle.definitions.specs.Uses.{Used}
 use Rattle.step_rules.specs.Answers.{Reply}
 use Rattle.session_rules.specs.Sessions.{Asked, numbered_from, call_reply, Session}
 use Rattle.session_rules.specs.Reading.{ReadsEach}

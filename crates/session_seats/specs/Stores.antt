@@ -1,7 +1,7 @@
 -- What is seen of a store that is lent to a session, and what one turn at it does.
 use Rattle.std.specs.Prelude.{◌≡◌, ◌≢◌, ℕ, ◌≤◌, List, [], ◌∷◌, ◌++◌, length, Bool, true, false, All, Option, Some, None, ⊤}
 use Rattle.definitions.specs.Counts.{has_risen}
-use Rattle.definitions.specs.Step.{Used}
+use Rattle.definitions.specs.Uses.{Used}
 use Rattle.record_rules.specs.Records.{Entry}
 use Rattle.step_rules.specs.Answers.{Reply}
 use Rattle.step_rules.specs.Store.{KeyedStore}

@@ -1,8 +1,7 @@
 -- The fixed part tells host and key.
 use Rattle.std.proofs.Common.{◌≡◌, ℕ, List, [], ◌∷◌, length, Option, Some, None, refl, sym, ap}
 use Rattle.std.specs.Option.{unwrap_or}
-use Rattle.store_core.specs.Store.{StoreSeen}
-use Rattle.shared_store.specs.Books.{fixed_of, IsKey, TellsHostAndKey, host_of}
+use Rattle.shared_store.specs.Books.{IsKey, TellsHostAndKey, host_of}
 
 no_bytes : (key : List ℕ) → length key ≡ 32 → [] ≡ key → ⊥
 no_bytes [] long e = absurd cc

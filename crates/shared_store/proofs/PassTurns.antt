@@ -1,15 +1,14 @@
 -- A turn of the store, taken and given at the lock, is one turn of the pass.
-use Rattle.std.proofs.Common.{◌≡◌, ◌≢◌, ℕ, ◌<◌, ◌≤◌, ◌^◌, true, false, List, [], ◌∷◌, length, Option, Some, None, refl, sym, ◌∙◌, ap, subst, append-nil, arith}
+use Rattle.std.proofs.Common.{◌≡◌, ◌≢◌, ℕ, ◌<◌, ◌≤◌, ◌^◌, true, false, List, [], ◌∷◌, length, Option, None, sym, ◌∙◌, ap, subst, append-nil, arith}
 use Rattle.std.specs.Prelude.{IfSome}
 use Rattle.std.specs.Option.{unwrap_or}
 use Rattle.definitions.specs.Counts.{Rose}
-use Rattle.definitions.specs.Step.{Used}
+use Rattle.definitions.specs.Uses.{Used}
 use Rattle.definitions.proofs.Counts.{Rose-has_risen}
-use Rattle.step_rules.specs.Store.{KeyedStore}
 use Rattle.step_rules.specs.ReadTurns.{ReadAnswer, read_faulted}
 use Rattle.session_rules.specs.Sessions.{Asked, SessionReply, SessionAnswer, caller_of}
 use Rattle.session_rules.specs.Passes.{Pass}
-use Rattle.session_rules.specs.Books.{Book, MayGive, PassTakes, PassGives, PassTurn}
+use Rattle.session_rules.specs.Books.{MayGive, PassTakes, PassGives, PassTurn}
 use Rattle.session_rules.specs.Stores.{StoreState, store_book, StoreTurn}
 use Rattle.session_rules.proofs.Books.{may_be_given}
 use Rattle.book_lock.specs.LockPasses.{LockPass, with_turn}

@@ -1,9 +1,9 @@
 -- What a told store does while the pass has the turn is one turn of the pass.
-use Rattle.std.proofs.Common.{◌≡◌, ℕ, ◌<◌, ◌≤◌, ◌^◌, List, [], ◌∷◌, length, Option, Some, None, Vec, Global, Result, Ok, Err, refl, sym, ◌∙◌, ap, subst, arith}
+use Rattle.std.proofs.Common.{◌≡◌, ℕ, ◌<◌, ◌≤◌, ◌^◌, List, [], ◌∷◌, length, Vec, Global, Result, Ok, Err, refl, sym, ◌∙◌, ap, subst, arith}
 use Rattle.std.specs.Prelude.{IfSome}
 use Rattle.std.specs.Option.{unwrap_or}
 use Rattle.definitions.specs.Counts.{Rose}
-use Rattle.definitions.specs.Step.{used_nothing}
+use Rattle.definitions.specs.Uses.{used_nothing}
 use Rattle.record_rules.specs.Records.{Caller, Entry, SealedRecord}
 use Rattle.step_rules.specs.Calls.{Call}
 use Rattle.step_rules.specs.Answers.{Reply}

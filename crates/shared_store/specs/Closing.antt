@@ -1,6 +1,5 @@
 -- The disk of a store that passes shared.
-use Rattle.std.specs.Prelude.{◌≡◌, ◌≢◌, List, []}
-use Rattle.record_rules.specs.Records.{Entry}
+use Rattle.std.specs.Prelude.{◌≡◌, ◌≢◌, []}
 use Rattle.session_rules.specs.Passes.{Pass}
 use Rattle.session_rules.specs.Books.{Finds}
 use Rattle.session_rules.specs.Stores.{StoreState}

@@ -1,6 +1,6 @@
 -- What one turn of a pass at a shared store is.
 use Rattle.std.specs.Prelude.{◌≡◌, ℕ, List, length, true}
-use Rattle.definitions.specs.Step.{Used, used_nothing}
+use Rattle.definitions.specs.Uses.{Used, used_nothing}
 use Rattle.record_rules.specs.Records.{SealedRecord}
 use Rattle.step_rules.specs.Calls.{Call}
 use Rattle.step_rules.specs.Answers.{Reply}

@@ -3,7 +3,7 @@ use Rattle.std.proofs.Common.{◌≡◌, ℕ, true, false, ◌⊎◌, inl, inr, 
 use Rattle.std.proofs.lemmas.Bool.{cases_Bool, true≢false}
 use Rattle.std.proofs.lemmas.Option.{none-some}
 use Rattle.definitions.specs.Journal.{HistoryRecord}
-use Rattle.definitions.specs.Step.{Used}
+use Rattle.definitions.specs.Uses.{Used}
 use Rattle.record_rules.specs.Records.{Caller, Entry}
 use Rattle.record_rules.specs.Journal.{status, Sound}
 use Rattle.view_rules.specs.Changes.{OpensByTag}

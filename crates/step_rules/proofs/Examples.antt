@@ -18,7 +18,7 @@ use Rattle.definitions.proofs.Among.{HaveDistinctIds-none, HaveDistinctIds-more}
 use Rattle.std.proofs.lemmas.List.Sorted.{IsPermutation-refl}
 use Rattle.std.specs.List.{Contains, filter}
 use Rattle.std.specs.List.Sorted.{IsPermutation}
-use Rattle.definitions.specs.Step.{Used, used_nothing, read_clock, read_and_drew}
+use Rattle.definitions.specs.Uses.{Used, used_nothing, read_clock, read_and_drew}
 use Rattle.definitions.specs.Examples.{first_time, ten_bytes, first_id, ls, ls_ended}
 use Rattle.record_rules.specs.Examples.{ls_entry}
 use Rattle.payload_rules.specs.Payloads.{Payload, HistoryCreate, HistoryDelete, KvSet, AliasSet, AliasDelete, version_0, version_text, tag_of, history_tag, payload_version, written_payload}

@@ -3,7 +3,7 @@ use Rattle.std.proofs.Common.{◌≡◌, ℕ, ℤ, Bool, true, false, inl, inr, 
 use Rattle.std.specs.Prelude.{slice_index}
 use Rattle.std.proofs.lemmas.Bool.{cases_Bool, true≢false}
 use Rattle.std.proofs.lemmas.Option.{none-some, same_Some}
-use Rattle.definitions.specs.Step.{Used, used_nothing, read_clock, read_and_drew}
+use Rattle.definitions.specs.Uses.{Used, used_nothing, read_clock, read_and_drew}
 use Rattle.payload_rules.specs.Payloads.{HistoryCreate, HistoryDelete, KvSet, KvDelete, AliasSet, AliasDelete}
 use Rattle.definitions.specs.Journal.{StartedRecord, finished}
 use Rattle.record_rules.specs.Records.{Caller, Entry}

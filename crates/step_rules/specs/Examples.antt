@@ -2,7 +2,7 @@
 use Rattle.std.specs.Prelude.{◌≡◌, ℕ, ◌-◌, ◌^◌, pos, negsuc, ◌+◌, List, [], ◌∷◌, ◌++◌, length, take, drop, replicate, bytes_eq, codes, Some, None, false, if◌then◌else◌}
 use Rattle.definitions.specs.Ids.{made_id}
 use Rattle.definitions.specs.Calls.{by_prefix}
-use Rattle.definitions.specs.Step.{used_nothing, read_clock, read_and_drew, read_and_failed}
+use Rattle.definitions.specs.Uses.{used_nothing, read_clock, read_and_drew, read_and_failed}
 use Rattle.definitions.specs.Examples.{first_time, ten_bytes, first_id, ls, ls_ended, authored_ls}
 use Rattle.payload_rules.specs.Payloads.{HistoryCreate, HistoryDelete, KvSet, KvDelete, AliasSet, AliasDelete, tag_of, history_tag}
 use Rattle.record_rules.specs.Records.{SealedRecord, Caller, Entry, Started, Local, Taken}

@@ -1,6 +1,6 @@
 -- The laws of steps and turns, as statements. Each is the contract of the function of its name.
 use Rattle.std.specs.Prelude.{◌≡◌, ℕ, ◌≤◌, List, ◌++◌, length, All, true, false, ◌⊎◌}
-use Rattle.definitions.specs.Step.{Used, used_nothing, read_clock, read_and_drew}
+use Rattle.definitions.specs.Uses.{Used, used_nothing, read_clock, read_and_drew}
 use Rattle.record_rules.specs.Records.{SealedRecord, Caller, Entry}
 use Rattle.record_rules.specs.Journal.{chain, IsNumbered, Sound}
 use Rattle.view_rules.specs.Changes.{OpensByTag}

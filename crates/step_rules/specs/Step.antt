@@ -3,7 +3,7 @@ use Rattle.std.specs.Prelude.{◌≡◌, ℕ, ℤ, List, [], ◌∷◌, ◌++◌
 use Rattle.std.specs.List.{list_any}
 use Rattle.definitions.specs.Ids.{made_id}
 use Rattle.definitions.specs.Journal.{StartedRecord, HistoryRecord, finished}
-use Rattle.definitions.specs.Step.{Used, used_nothing, read_clock, read_and_drew}
+use Rattle.definitions.specs.Uses.{Used, used_nothing, read_clock, read_and_drew}
 use Rattle.payload_rules.specs.Payloads.{Payload, HistoryCreate, HistoryDelete, KvSet, KvDelete, AliasSet, AliasDelete, tag_of, version_text, payload_version}
 use Rattle.record_rules.specs.Records.{Caller, Entry, Event, Started, Local, Taken, started_weight}
 use Rattle.record_rules.specs.Journal.{ChainPlace, PassedLimit, chain, status, first_limit_passed, running, events_of, records_of}

@@ -1,6 +1,6 @@
 -- A step on a disk that may fail: a commit whose last write or sync failed is in doubt, and the next writing call settles it first.
 use Rattle.std.specs.Prelude.{◌≡◌, ◌≢◌, ℕ, List, [], ◌++◌, length, map, Bool, true, false, ◌⊎◌}
-use Rattle.definitions.specs.Step.{Used, used_nothing, read_clock, read_and_drew, read_and_failed}
+use Rattle.definitions.specs.Uses.{Used, used_nothing, read_clock, read_and_drew, read_and_failed}
 use Rattle.record_rules.specs.Records.{Caller, Entry}
 use Rattle.step_rules.specs.Calls.{Call, is_read}
 use Rattle.step_rules.specs.Answers.{random_fault, disk_fault, no_memory, Answer, began, stored, hits, value_is, keys, aliases, places, refused, Reply}

@@ -1,7 +1,7 @@
 -- A run of turns that began with nothing in doubt leaves something in doubt only where the disk's count rose.
 use Rattle.std.proofs.Common.{◌≡◌, ◌⊎◌, inl, inr, ℕ, ◌≤◌, true, List, [], ◌∷◌, ◌∙◌, ap, arith}
 use Rattle.definitions.specs.Counts.{Rose}
-use Rattle.definitions.specs.Step.{Used}
+use Rattle.definitions.specs.Uses.{Used}
 use Rattle.definitions.proofs.Counts.{Rose-later, Rose-earlier}
 use Rattle.record_rules.specs.Records.{SealedRecord, Caller, Entry}
 use Rattle.step_rules.specs.Calls.{Call}

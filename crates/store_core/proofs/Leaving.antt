@@ -18,7 +18,7 @@ use Rattle.store_core.specs.Calls.{IsOfTurn, LeavesByTurn}
 
 -- ---- what bytes stand for
 
-stands_alike : (left : List ℕ) (host : ℕ) (journal other : List Entry) → events_of journal ≡ events_of other → StandsFor current_form left host journal → StandsFor current_form left host other
+pub stands_alike : (left : List ℕ) (host : ℕ) (journal other : List Entry) → events_of journal ≡ events_of other → StandsFor current_form left host journal → StandsFor current_form left host other
 stands_alike left host journal other same stands = record {
   prefix = stands.prefix;
   behind = stands.behind;
@@ -31,7 +31,7 @@ same_events : (batch : List Entry) → events_of batch ≡ events_of (map settle
 same_events [] = refl
 same_events (entry ∷ batch) = ap (λ (es : List Event). entry.event ∷ es) (same_events batch)
 
-settled_alike : (journal doubt : List Entry) → events_of (journal ++ doubt) ≡ events_of (settled journal doubt)
+pub settled_alike : (journal doubt : List Entry) → events_of (journal ++ doubt) ≡ events_of (settled journal doubt)
 settled_alike journal doubt =
     map-append (λ (e : Entry). e.event) journal doubt ∙ ap (λ (es : List Event). events_of journal ++ es) (same_events doubt) ∙ sym (map-append (λ (e : Entry). e.event) journal (map settled_entry doubt))
 

@@ -8,7 +8,7 @@ use Rattle.definitions.specs.Journal.{StartedRecord, finished}
 use Rattle.definitions.specs.Limits.{most_name_bytes, most_call_bytes}
 use Rattle.definitions.specs.Search.{author_length}
 use Rattle.definitions.specs.Spelling.{written_text}
-use Rattle.definitions.specs.Step.{Used, read_clock, read_and_drew, read_and_failed}
+use Rattle.definitions.specs.Uses.{Used, read_clock, read_and_drew, read_and_failed}
 use Rattle.payload_rules.specs.Payloads.{Payload, HistoryCreate, HistoryDelete, KvSet, KvDelete, AliasSet, AliasDelete, written_payload, tag_of}
 use Rattle.record_rules.specs.Records.{Caller, Entry, Event, Started, Local, Taken, SealedRecord}
 use Rattle.record_rules.specs.Journal.{ChainPlace, running, still_running, closes_id, events_of, own_events, chain, held, held_of, limit_passed, EventFits, StartedFits, Sound, MayFollow}

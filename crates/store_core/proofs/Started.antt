@@ -1,7 +1,7 @@
 -- A command that starts: each of its ways out.
 use Rattle.std.proofs.Common.{◌≡◌, ℕ, inl, inr, Bool, true, false, List, [], ◌∷◌, ◌++◌, length, Option, Some, None, refl, sym, ap, subst, ◌∙◌}
 use Rattle.std.specs.Option.{option_map}
-use Rattle.definitions.specs.Step.{read_clock, read_and_drew, read_and_failed}
+use Rattle.definitions.specs.Uses.{read_clock, read_and_drew, read_and_failed}
 use Rattle.record_rules.specs.Records.{Caller, Entry, started_weight}
 use Rattle.record_rules.specs.Records as said
 use Rattle.record_rules.specs.Journal.{events_of, own_events, held, held_of, first_limit_passed, StartedFits, MayFollow}

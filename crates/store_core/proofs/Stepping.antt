@@ -1,7 +1,7 @@
 -- What a writing call comes to, by what became of the store. Commands that start and payloads that are recorded share it.
 use Rattle.std.proofs.Common.{◌≡◌, ℕ, true, false, inl, inr, List, [], ◌∷◌, ◌++◌, length, Some, None, refl, sym, subst}
 use Rattle.std.proofs.lemmas.List.{append-nil}
-use Rattle.definitions.specs.Step.{Used, read_clock, read_and_drew, read_and_failed}
+use Rattle.definitions.specs.Uses.{Used, read_clock, read_and_drew, read_and_failed}
 use Rattle.record_rules.specs.Records.{Caller, Entry, Event}
 use Rattle.record_rules.specs.Journal.{PassedLimit, Sound, MayFollow}
 use Rattle.record_rules.proofs.Soundness.{Sound-push}

@@ -1,7 +1,7 @@
 -- A call as a turn: what only asks, and what is written behind what was in doubt.
 use Rattle.std.proofs.Common.{◌≡◌, ◌⊎◌, inl, inr, ℕ, false, List, [], length, Option, Some, None, Err, refl, sym, ◌∙◌, ap, subst}
 use Rattle.std.specs.Prelude.{◌≢◌, ◌<◌, ◌^◌}
-use Rattle.definitions.specs.Step.{Used, used_nothing, read_clock}
+use Rattle.definitions.specs.Uses.{Used, used_nothing, read_clock}
 use Rattle.record_rules.specs.Records.{Caller, Entry}
 use Rattle.step_rules.specs.Calls.{Call, CallFits, is_read, long_text}
 use Rattle.step_rules.specs.Answers.{Refusal, disk_fault, no_memory, Answer, refused, Reply}

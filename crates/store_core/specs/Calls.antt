@@ -1,6 +1,6 @@
 -- What a call, and a page that comes in, make of a store: one turn, and what a crash may leave on the way.
 use Rattle.std.specs.Prelude.{◌≡◌, ◌⊎◌, ℕ, List, ◌++◌, Some}
-use Rattle.definitions.specs.Step.{Used, used_nothing}
+use Rattle.definitions.specs.Uses.{Used, used_nothing}
 use Rattle.record_rules.specs.Records.{SealedRecord, Caller, Entry}
 use Rattle.log_rules.specs.Log.{current_form, StandsFor}
 use Rattle.disk_rules.specs.History.{Images}

@@ -1,6 +1,6 @@
 -- What a writing call comes to from a journal with nothing in doubt.
 use Rattle.std.specs.Prelude.{◌≡◌, ◌⊎◌, ℕ, List, [], ◌∷◌, ◌++◌, length, None, Some, false}
-use Rattle.definitions.specs.Step.{Used, read_and_failed}
+use Rattle.definitions.specs.Uses.{Used, read_and_failed}
 use Rattle.record_rules.specs.Records.{Caller, Entry}
 use Rattle.step_rules.specs.Calls.{Call, CallFits, long_text}
 use Rattle.step_rules.specs.Answers.{random_fault, disk_fault, no_memory, Answer, refused, Reply}

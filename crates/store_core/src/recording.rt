@@ -4,7 +4,7 @@ ghost use Rattle.std.specs.Prelude.{◌≡◌, ◌≢◌, ◌≤◌, ◌∷◌, 
 ghost use Rattle.std.specs.Option.{option_map};
 ghost use Rattle.definitions.specs.Counts.{Rose};
 ghost use Rattle.definitions.specs.Spelling.{IsBytes};
-ghost use Rattle.definitions.specs.Step.{read_and_drew};
+ghost use Rattle.definitions.specs.Uses.{read_and_drew};
 ghost use Rattle.payload_rules.specs.Payloads.{written_payload};
 ghost use Rattle.payload_rules.specs.Payloads as rules;
 ghost use Rattle.record_rules.specs.Records.{Entry};

@@ -1,12 +1,12 @@
 -- What a page that comes in, and a read, make of a store's note.
-use Rattle.std.proofs.Common.{◌≡◌, ℕ, ◌≤◌, true, List, [], ◌∷◌, ◌++◌, length, Vec, Global, Result, Ok, Err, refl, sym, ap, ◌∙◌, subst}
+use Rattle.std.proofs.Common.{◌≡◌, ℕ, ◌≤◌, true, List, [], ◌∷◌, ◌++◌, Vec, Global, Result, Ok, Err, refl, sym, ap, ◌∙◌, subst}
 use Rattle.std.specs.Prelude.{IfOk}
 use Rattle.definitions.specs.Counts.{Rose}
 use Rattle.record_rules.specs.Records.{Caller, Entry, SealedRecord}
 use Rattle.record_rules.specs.Journal.{status}
 use Rattle.record_rules.specs.Answers.{page}
-use Rattle.step_rules.specs.PageTurns.{PageAnswer, PageLeaves}
-use Rattle.step_rules.specs.ReadTurns.{StoreRead, status_read, page_read, ReadAnswer, told_status, told_page, read_faulted, read_no_memory, ReadTurn, tells_status, tells_page, faults_on_page, wants_memory}
+use Rattle.step_rules.specs.PageTurns.{PageLeaves}
+use Rattle.step_rules.specs.ReadTurns.{status_read, page_read, told_status, told_page, read_faulted, read_no_memory, tells_status, tells_page, faults_on_page, wants_memory}
 use Rattle.session_rules.specs.Sessions.{to_page}
 use Rattle.session_rules.specs.Passes.{tells_disk_fault}
 use Rattle.session_rules.specs.Stores.{StoreState}
@@ -14,7 +14,7 @@ use Rattle.session_rules.specs.Turns.{answers_page}
 use Rattle.record_model.specs.declared.places.Chain.{Chain}
 use Rattle.record_model.specs.declared.sealed.Record.{Record}
 use Rattle.record_model.specs.Seen.{chains_seen, records_seen}
-use Rattle.at_edge.specs.Storing.{DiskSeen, Tells}
+use Rattle.at_edge.specs.Storing.{Tells}
 use Rattle.record_log.specs.declared.reading.ReadFail.{ReadFail}
 use Rattle.record_log.specs.declared.reading.ReadFail.TheVariants as fails
 use Rattle.page_reading.proofs.Standing.{tells_always}

@@ -1,7 +1,7 @@
 -- What else is asked of a told store: a page of records that comes in, and reads.
 use Rattle.std.specs.Prelude.{◌≡◌, ℕ, ◌≤◌, List, Vec, Result, Ok, Err}
 use Rattle.std.specs.Global.{Global}
-use Rattle.definitions.specs.Step.{used_nothing}
+use Rattle.definitions.specs.Uses.{used_nothing}
 use Rattle.record_rules.specs.Records.{Caller, SealedRecord}
 use Rattle.step_rules.specs.PageTurns.{PageAnswer}
 use Rattle.step_rules.specs.ReadTurns.{StoreRead, ReadAnswer, told_status, told_page, read_faulted, read_no_memory, ReadTurn}

@@ -2,7 +2,7 @@
 use Rattle.std.specs.Prelude.{◌≡◌, ℕ, List, [], ◌∷◌, ◌++◌, length}
 use Rattle.std.specs.Option.{unwrap_or}
 use Rattle.definitions.specs.Counts.{has_risen}
-use Rattle.definitions.specs.Step.{Used}
+use Rattle.definitions.specs.Uses.{Used}
 use Rattle.record_rules.specs.Records.{Caller, Entry}
 use Rattle.log_rules.specs.Log.{current_form}
 use Rattle.disk_rules.specs.Disk.{Disk}

@@ -1,6 +1,6 @@
 -- Worlds of stores: their steps are those of calls.
 use Rattle.std.specs.Prelude.{ℕ, List}
-use Rattle.definitions.specs.Step.{Used}
+use Rattle.definitions.specs.Uses.{Used}
 use Rattle.record_rules.specs.Records.{Caller, Entry}
 use Rattle.step_rules.specs.Calls.{Call, CallFits}
 use Rattle.step_rules.specs.Answers.{Answer}

@@ -1,6 +1,6 @@
 use Rattle.std.proofs.Common.{List}
 use Rattle.std.specs.Prelude.{◌≢◌, None}
-use Rattle.definitions.specs.Step.{Used}
+use Rattle.definitions.specs.Uses.{Used}
 use Rattle.record_rules.specs.Records.{Caller, Entry}
 use Rattle.step_rules.specs.Calls.{Call}
 use Rattle.step_rules.specs.Answers.{Reply}

@@ -1,4 +1,4 @@
-use Rattle.std.proofs.Common.{◌≡◌, ℕ, List, map, get_or, Vec, Global, sym, subst}
+use Rattle.std.proofs.Common.{◌≡◌, ℕ, List, map, Vec, Global, sym, subst}
 use Rattle.history_view.specs.Folded.{blocks_seen, starts_seen, HoldsBlock}
 use Rattle.history_view.specs.Texts.{Vocabulary}
 use Rattle.history_view.proofs.Folding.{block_holds}

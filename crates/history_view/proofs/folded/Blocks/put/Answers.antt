@@ -1,5 +1,5 @@
 use Rattle.std.proofs.Common.{◌≡◌, ℕ, ◌+◌, List, [], ◌∷◌, ◌++◌, map, length, get_or, Vec, Global, sym, subst, arith, length-append}
-use Rattle.history_view.specs.Folded.{StandsFrom, KeepsBlocks}
+use Rattle.history_view.specs.Folded.{StandsFrom}
 use Rattle.history_view.proofs.Folding.{from_last, last_is, last_kept}
 use Rattle.history_view.proofs.folded.Blocks.put.Goals as goal
 

@@ -1,6 +1,6 @@
 use Rattle.std.proofs.Common.{◌≡◌, length, None, ◌∙◌, refl}
 use Rattle.std.proofs.lemmas.Result.{err_from_is_err_and}
-use Rattle.definitions.specs.Step.{read_clock, read_and_drew, read_and_failed}
+use Rattle.definitions.specs.Uses.{read_clock, read_and_drew, read_and_failed}
 use Rattle.payload_forms.specs.Seen.{payload_seen}
 use Rattle.record_model.specs.Seen.{caller_seen}
 use Rattle.model_words.specs.Seen.{result_seen}

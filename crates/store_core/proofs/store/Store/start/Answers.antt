@@ -1,6 +1,6 @@
 use Rattle.std.proofs.Common.{◌<◌, ◌^◌, ℕ, None, refl, sym, ap, subst, ◌∙◌, arith}
 use Rattle.std.proofs.lemmas.Result.{err_from_is_err_and}
-use Rattle.definitions.specs.Step.{read_clock, read_and_drew, read_and_failed}
+use Rattle.definitions.specs.Uses.{read_clock, read_and_drew, read_and_failed}
 use Rattle.record_rules.specs.Journal.{first_limit_passed}
 use Rattle.started_commands.specs.Kept.{IsOf}
 use Rattle.call_supplies.proofs.Using.{only_read, read_then_drew, read_then_failed}

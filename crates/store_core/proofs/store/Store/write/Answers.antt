@@ -1,5 +1,5 @@
 use Rattle.std.proofs.Common.{◌<◌, ◌^◌, ℕ, List, sym, ap, subst, ◌∙◌, arith}
-use Rattle.definitions.specs.Step.{read_clock}
+use Rattle.definitions.specs.Uses.{read_clock}
 use Rattle.definitions.proofs.Counts.{Rose-later}
 use Rattle.at_edge.specs.Telling.{Told}
 use Rattle.record_model.specs.Seen.{caller_seen}

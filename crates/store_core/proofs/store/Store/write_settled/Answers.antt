@@ -1,5 +1,5 @@
 use Rattle.std.proofs.Common.{◌<◌, ◌^◌, refl, sym, subst, arith}
-use Rattle.definitions.specs.Step.{read_clock}
+use Rattle.definitions.specs.Uses.{read_clock}
 use Rattle.record_model.specs.Seen.{caller_seen}
 use Rattle.model_words.specs.Seen.{call_seen, result_seen}
 use Rattle.payload_forms.specs.Seen.{payload_seen}

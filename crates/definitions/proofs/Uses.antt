@@ -3,7 +3,7 @@ use Rattle.std.proofs.Common.{◌≡◌, ℕ, ◌<◌, ◌^◌, append_assoc, ap
 use Rattle.std.proofs.Math.Nat.{add_assoc, zero-add, add-zero}
 use Rattle.std.proofs.lemmas.List.Elements.{All-nil, All-append}
 use Rattle.definitions.proofs.Bytes.{IsBytes-append}
-use Rattle.definitions.specs.Step.{Used, used_nothing, then_used, UsedFits}
+use Rattle.definitions.specs.Uses.{Used, used_nothing, then_used, UsedFits}
 
 pub then_used-assoc : (a b c : Used) → then_used (then_used a b) c ≡ then_used a (then_used b c)
 then_used-assoc a b c = simp (append_assoc, add_assoc)

@@ -1,5 +1,5 @@
 use Rattle.definitions.proofs.Examples.{runs}
-use Rattle.definitions.proofs.worked.worked_runs.Goals as goal
+use Rattle.definitions.proofs.worked.worked_uses.Goals as goal
 
 pub returns : goal.returns
 returns c = runs

@@ -37,7 +37,7 @@ pub record Holds (hosts : List ℕ) (w : World) : Type 0 where
   pub strangers : NoStrangeChains hosts w
   pub cuts : (number : ℕ) (records : List SealedRecord) → slice_get w.sent number ≡ Some records → WasCut hosts w records
 
-empty_holds : (hosts : List ℕ) → Holds hosts empty_world
+pub empty_holds : (hosts : List ℕ) → Holds hosts empty_world
 empty_holds hosts = record {
   sound = λ node host at. empty_sound host;
   prefixes = λ node origin host tag at. refl;
@@ -47,7 +47,7 @@ empty_holds hosts = record {
 
 -- ---- a batch behind one journal
 
-at_each : (w : World) (n : ℕ) (journal : List Entry) (P : ℕ → List Entry → Type 0) → P n journal → ((m : ℕ) → m ≢ n → P m (w.journal m)) → (m : ℕ) → P m ((with_journal w n journal).journal m)
+pub at_each : (w : World) (n : ℕ) (journal : List Entry) (P : ℕ → List Entry → Type 0) → P n journal → ((m : ℕ) → m ≢ n → P m (w.journal m)) → (m : ℕ) → P m ((with_journal w n journal).journal m)
 at_each w n journal P here there m =
     elim (cases_eq m n) [
       | inl same ↦ subst (P m) (ap (λ b. cond b journal (w.journal m)) (sym (eq-eqb m n same))) (subst (λ k. P k journal) (sym same) here)
@@ -137,10 +137,10 @@ module _ (hosts : List ℕ) (w : World) (holds : Holds hosts w) (node : ℕ) (ca
   no_fork position id refused = slice_never_forks (w.journal node) caller 0 from.host from.tag (chain (w.journal from.origin) 0 from.host from.tag) (length from.cut.before) (length records) position id from_goes_on (holds.prefixes node from.origin from.host from.tag from.at_host) (grows_as_slice ∙ refused)
 
   module _ (apart : HostsDiffer hosts) (of_host : ℕ) (at_node : host_at hosts node ≡ Some of_host) (batch : List Entry) (taken : grow (w.journal node) caller 0 records ≡ Ok batch) where
-    other_chain : (host : ℕ) (tag : List ℕ) → (from.host ≢ host) ⊎ (from.tag ≢ tag) → chain (w.journal node ++ batch) 0 host tag ≡ chain (w.journal node) 0 host tag
+    pub other_chain : (host : ℕ) (tag : List ℕ) → (from.host ≢ host) ⊎ (from.tag ≢ tag) → chain (w.journal node ++ batch) 0 host tag ≡ chain (w.journal node) 0 host tag
     other_chain host tag differ = slice_leaves_other_chains (w.journal node) caller 0 from.host from.tag (chain (w.journal from.origin) 0 from.host from.tag) (length from.cut.before) (length records) host tag batch from_goes_on differ (grows_as_slice ∙ taken)
 
-    own_chain : IsPrefix (chain (w.journal node ++ batch) 0 from.host from.tag) (chain (w.journal from.origin) 0 from.host from.tag)
+    pub own_chain : IsPrefix (chain (w.journal node ++ batch) 0 from.host from.tag) (chain (w.journal from.origin) 0 from.host from.tag)
     own_chain = slice_keeps_prefix (w.journal node) of_host caller 0 from.host from.tag (chain (w.journal from.origin) 0 from.host from.tag) (length from.cut.before) (length records) batch (holds.sound node of_host at_node) from_goes_on (holds.prefixes node from.origin from.host from.tag from.at_host) (grows_as_slice ∙ taken)
 
     prefix_after : (o host : ℕ) (tag : List ℕ) → host_at hosts o ≡ Some host → IsPrefix (chain (w.journal node ++ batch) 0 host tag) (chain (w.journal o) 0 host tag)
@@ -221,7 +221,7 @@ send_holds hosts w node host tag start count new holds sends =
 -- ---- whole runs
 
 module _ {Asked : Type 0} (step : ℕ → List Entry → Asked → List Entry → Type 0) (makes : MakesOwn step) (hosts : List ℕ) (apart : HostsDiffer hosts) where
-  happens_holds : (event : WorldEvent Asked) (w new : World) → Holds hosts w → Happens step hosts w event new → Holds hosts new
+  pub happens_holds : (event : WorldEvent Asked) (w new : World) → Holds hosts w → Happens step hosts w event new → Holds hosts new
   happens_holds (Append node asked) w new holds happens = append_holds step makes hosts w node asked new apart holds happens
   happens_holds (Send node host tag start count) w new holds happens = send_holds hosts w node host tag start count new holds happens
   happens_holds (Deliver number node caller) w new holds happens = deliver_holds hosts w number node caller new apart holds happens
@@ -240,7 +240,7 @@ module _ {Asked : Type 0} (step : ℕ → List Entry → Asked → List Entry �
 -- ---- what follows
 
 -- the loosest step is of the kind
-own_makes : MakesOwn AppendsOwn
+pub own_makes : MakesOwn AppendsOwn
 own_makes host journal batch after sound own = (batch, own)
 
 pub world_holds : (hosts : List ℕ) (events : List (WorldEvent (List Entry))) (w : World) → HostsDiffer hosts → Reach AppendsOwn hosts events w → Holds hosts w

@@ -1,12 +1,12 @@
 -- The laws of worlds, as statements. Each is a clause of the function that tells it.
-use Rattle.std.specs.Prelude.{◌≡◌, ℕ, List, [], Some, Err, slice_get}
+use Rattle.std.specs.Prelude.{◌≡◌, ℕ, List, [], filter, Some, Err, slice_get}
 use Rattle.record_rules.specs.Records.{SealedRecord, Caller, Entry}
-use Rattle.record_rules.specs.Journal.{chain, status, Sound}
+use Rattle.record_rules.specs.Journal.{in_place, chain, status, Sound}
 use Rattle.definitions.specs.Prefixes.{IsPrefix}
 use Rattle.record_rules.specs.Growth.{PageForked, grow}
 use Rattle.view_rules.specs.Changes.{Opening, viewed, changes_of}
 use Rattle.view_rules.specs.Laws.{SameViews}
-use Rattle.world_rules.specs.World.{World, WorldEvent, host_at, HostsDiffer, IsNoHost, AppendsOwn, Reach}
+use Rattle.world_rules.specs.World.{World, WorldEvent, host_at, HostsDiffer, IsNoHost, made_at, AppendsOwn, Reach}
 
 -- what holds of each world that events of steps, pages, crashes and cuts can lead to, where no two nodes have one host
 abbrev pub InEachWorld : (List ℕ → World → Type 0) → Type 0
@@ -23,6 +23,14 @@ ChainsArePrefixes hosts w = (node origin host : ℕ) (tag : List ℕ) → host_a
 -- no node has a chain of a host that is no node's
 abbrev pub NoStrangeChains : List ℕ → World → Type 0
 NoStrangeChains hosts w = (node host : ℕ) (tag : List ℕ) → IsNoHost hosts host → chain (w.journal node) 0 host tag ≡ []
+
+-- no node has a chain of the server's host: the server makes no records
+abbrev pub NoServerChains : List ℕ → World → Type 0
+NoServerChains hosts w = (node : ℕ) (tag : List ℕ) → chain (w.journal node) 0 0 tag ≡ []
+
+-- what a node has of its own host was made there, and nothing of it was taken in
+abbrev pub OwnChainsAreMade : List ℕ → World → Type 0
+OwnChainsAreMade hosts w = (node host : ℕ) (tag : List ℕ) → host_at hosts node ≡ Some host → chain (w.journal node) 0 host tag ≡ filter (in_place host tag) (made_at (w.journal node))
 
 -- no page that was ever sent is refused as a fork, whenever and wherever it comes
 abbrev pub NoForks : List ℕ → World → Type 0

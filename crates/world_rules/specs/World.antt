@@ -1,8 +1,8 @@
 -- Replicas that hand pages to one another: what may happen among them, and the worlds that they can reach.
-use Rattle.std.specs.Prelude.{◌≡◌, ℕ, ◌<◌, ◌⊎◌, List, [], ◌∷◌, ◌++◌, Option, Some, if◌then◌else◌, ◌==◌, slice_get, ⊤}
+use Rattle.std.specs.Prelude.{◌≡◌, ℕ, ◌<◌, ◌⊎◌, List, [], ◌∷◌, ◌++◌, Option, Some, None, if◌then◌else◌, ◌==◌, filter_map, slice_get, ⊤}
 use Rattle.std.specs.List.{AllByRecursion}
 use Rattle.record_rules.specs.Records.{SealedRecord, Caller, Entry, Event, Started, Local, Taken}
-use Rattle.record_rules.specs.Journal.{Sound}
+use Rattle.record_rules.specs.Journal.{events_of, Sound}
 use Rattle.record_rules.specs.Growth.{grow, grown}
 use Rattle.record_rules.specs.Answers.{page}
 
@@ -99,6 +99,16 @@ abbrev pub IsMade : Event → Type 0
 IsMade (Started s) = ⊤
 IsMade (Local closes r) = ⊤
 IsMade (Taken owner r) = ⊥
+
+-- the record that an event says was made at its store
+abbrev pub made_record : Event → Option SealedRecord
+made_record (Started s) = None
+made_record (Local closes r) = Some r
+made_record (Taken owner r) = None
+
+-- the records that were made at the journal's store, in order
+abbrev pub made_at : List Entry → List SealedRecord
+made_at journal = filter_map made_record (events_of journal)
 
 -- a step appends only what was made at its store, and leaves the journal sound: so its records have the store's host and the next
 -- idx of their chain. The loosest step is asked for just that batch

@@ -1,17 +1,20 @@
 //! The laws of worlds. Each is a function that does nothing, whose contract is the law.
 
-ghost use Rattle.world_rules.specs.Laws.{InEachWorld, NodesAreSound, ChainsArePrefixes, NoStrangeChains, NoForks, StatusTellsChains, StatusTellsViews};
+ghost use Rattle.world_rules.specs.Laws.{InEachWorld, NodesAreSound, ChainsArePrefixes, NoStrangeChains, NoServerChains, OwnChainsAreMade, NoForks, StatusTellsChains, StatusTellsViews};
 ghost use Rattle.world_rules.specs.Stores.{InEachStoreWorld};
 ghost use Rattle.world_rules.specs.Examples.{WorkedWorld, WorkedTwins};
 
 /// In every world that steps, pages, crashes and cuts can lead to: each node's journal is sound, so that
 /// its chains are numbered from 0 without gaps; each chain of each node is a prefix of that chain at its
-/// own host's node, and no node has a chain of any other host; and no page that was ever sent is refused
-/// as a fork, at any node and in anyone's call.
+/// own host's node, and no node has a chain of any other host; no node has one of the server's host, and
+/// what a node has of its own host was made there; and no page that was ever sent is refused as a fork,
+/// at any node and in anyone's call.
 pub fn no_world_forks()
     ensures sound { InEachWorld NodesAreSound }
     ensures prefixes { InEachWorld ChainsArePrefixes }
     ensures no_strangers { InEachWorld NoStrangeChains }
+    ensures none_of_server { InEachWorld NoServerChains }
+    ensures own_made { InEachWorld OwnChainsAreMade }
     ensures no_forks { InEachWorld NoForks }
 {}
 
@@ -25,11 +28,14 @@ pub fn nodes_of_equal_status_are_alike()
 
 /// In every world that calls of stores, pages, crashes and cuts can lead to, where all stores have one
 /// key, the same holds: no page is a fork, each chain is a prefix of that at its own host's node, each
-/// journal is sound, and nodes of equal status have equal chains and views.
+/// journal is sound, what a node has of its own host was made there, and nodes of equal status have
+/// equal chains and views.
 pub fn stores_never_fork()
     ensures sound { InEachStoreWorld NodesAreSound }
     ensures prefixes { InEachStoreWorld ChainsArePrefixes }
     ensures no_strangers { InEachStoreWorld NoStrangeChains }
+    ensures none_of_server { InEachStoreWorld NoServerChains }
+    ensures own_made { InEachStoreWorld OwnChainsAreMade }
     ensures no_forks { InEachStoreWorld NoForks }
     ensures chains { InEachStoreWorld StatusTellsChains }
     ensures views { InEachStoreWorld StatusTellsViews }

@@ -15,7 +15,7 @@ use Rattle.plan_rules.proofs.Plans.{plan_has_each}
 use Rattle.world_rules.specs.World.{World, empty_world}
 use Rattle.definitions.proofs.Prefixes.{prefix-itself, prefixes-alike, prefix-is_shorter, prefixes-nest}
 use Rattle.world_rules.proofs.Kept.{Holds, find_place}
-use Rattle.rehearsal_rules.specs.Transfers.{Each, plan_at, HandsUp, HandsDown, Uploads, Downloads}
+use Rattle.rehearsal_rules.specs.Transfers.{Each, plan_at, TransfersUp, TransfersDown, Uploads, Downloads}
 use Rattle.rehearsal_rules.specs.Rehearsal.{key_of, hosts_of, Rehearsed}
 use Rattle.rehearsal_rules.specs.Laws.{InEachRehearsal, EndAlike, HasAll}
 use Rattle.rehearsal_rules.proofs.Nodes.{is_a_host, node_has_host}
@@ -31,12 +31,12 @@ down_part : PlanStep → Option Part
 down_part (Upload place start end) = None
 down_part (Download place start end) = Some (record { place = place; start = start; end = end })
 
-up_did : (node : ℕ) (step : PlanStep) (w new : World) → HandsUp node step w new → Did node 0 (up_part step) w new
+up_did : (node : ℕ) (step : PlanStep) (w new : World) → TransfersUp node step w new → Did node 0 (up_part step) w new
 unfolding up_part
 up_did node (Upload place start end) w new up = up
 up_did node (Download place start end) w new up = up
 
-down_did : (node : ℕ) (step : PlanStep) (w new : World) → HandsDown node step w new → Did 0 node (down_part step) w new
+down_did : (node : ℕ) (step : PlanStep) (w new : World) → TransfersDown node step w new → Did 0 node (down_part step) w new
 unfolding down_part
 down_did node (Upload place start end) w new down = down
 down_did node (Download place start end) w new down = down
@@ -63,7 +63,7 @@ module _ (store : KeyedStore) (well : SealsWell store) (hosts : ℕ) where
     ups_level : Uploads node w new → Levels node 0
     unfolding up_part
     ups_level ups =
-        let all = steps_move store well hosts node 0 no_server within (omega arith) (HandsUp node) up_part (up_did node) (plan_at node w) w new holds ups in
+        let all = steps_move store well hosts node 0 no_server within (omega arith) (TransfersUp node) up_part (up_did node) (plan_at node w) w new holds ups in
         record {
           moved = all.moved;
           reaches = λ host tag.
@@ -80,7 +80,7 @@ module _ (store : KeyedStore) (well : SealsWell store) (hosts : ℕ) where
     downs_level : Downloads node w new → Levels 0 node
     unfolding down_part
     downs_level downs =
-        let all = steps_move store well hosts 0 node (λ same. no_server (sym same)) (omega arith) within (HandsDown node) down_part (down_did node) (plan_at node w) w new holds downs in
+        let all = steps_move store well hosts 0 node (λ same. no_server (sym same)) (omega arith) within (TransfersDown node) down_part (down_did node) (plan_at node w) w new holds downs in
         record {
           moved = all.moved;
           reaches = λ host tag.
@@ -196,7 +196,7 @@ module _ (store : KeyedStore) (well : SealsWell store) (hosts : ℕ) where
 
 module _ (keyed : List ℕ → KeyedStore) (seed hosts events : ℕ) (w : World) (well : SealsWell (keyed (key_of seed))) (some : 0 < hosts) (rehearsed : Rehearsed keyed seed hosts events w) where
   played_holds : Holds (hosts_of hosts) rehearsed.played.world
-  played_holds = leads_keep (keyed (key_of seed)) hosts empty_world rehearsed.played.world well (empty_holds_all hosts (keyed (key_of seed)) well) (played_leads keyed seed hosts events some rehearsed.played rehearsed.plays)
+  played_holds = leads_keep (keyed (key_of seed)) hosts empty_world rehearsed.played.world well (empty_holds_all hosts (keyed (key_of seed)) well) (played_leads keyed seed hosts events some rehearsed.played rehearsed.ran)
 
   uploaded : Uploaded (keyed (key_of seed)) well hosts (hosts_of hosts) rehearsed.played.world rehearsed.uploaded
   uploaded = all_up (keyed (key_of seed)) well hosts (hosts_of hosts) (hosts_fit hosts) rehearsed.played.world rehearsed.uploaded played_holds rehearsed.uploads
@@ -236,11 +236,15 @@ module _ (keyed : List ℕ → KeyedStore) (seed hosts events : ℕ) (w : World)
       ∙ prefixes-alike (chain (rehearsed.uploaded.journal 0) 0 host tag) (chain (rehearsed.uploaded.journal host) 0 host tag) (chain (rehearsed.uploaded.journal host) 0 host tag) prefix (prefix-itself (chain (rehearsed.uploaded.journal host) 0 host tag)) (omega (arith, short, long))
       ∙ ap (λ journal. chain journal 0 host tag) same
 
+  -- a node's chain of a host is that of the host's own node
+  pub each_has_own : (node host : ℕ) (tag : List ℕ) → node ≤ hosts → 1 ≤ host → host ≤ hosts → chain (w.journal node) 0 host tag ≡ chain (rehearsed.played.world.journal host) 0 host tag
+  each_has_own node host tag within some_host host_within = as_server node within host tag ∙ own_chain host some_host host_within tag
+
 pub end_with_all : InEachRehearsal HasAll
 end_with_all keyed seed hosts events w well some rehearsed = record {
   played = rehearsed.played;
-  plays = rehearsed.plays;
-  chains = λ node host tag within some_host host_within. as_server keyed seed hosts events w well some rehearsed node within host tag ∙ own_chain keyed seed hosts events w well some rehearsed host some_host host_within tag;
+  ran = rehearsed.ran;
+  chains = each_has_own keyed seed hosts events w well some rehearsed;
 }
 
 pub end_alike : InEachRehearsal EndAlike

@@ -2,7 +2,6 @@
 use Rattle.std.proofs.Common.{◌≡◌, ℕ, ◌+◌, ◌-◌, ◌<◌, ◌≤◌, List, [], ◌∷◌, ◌++◌, length, Ok, refl, sym, ap, subst, arith}
 use Rattle.std.specs.Prelude.{⊤}
 use Rattle.std.specs.List.{AllByRecursion}
-use Rattle.definitions.specs.Uses.{read_and_drew}
 use Rattle.record_rules.specs.Records.{Caller, Entry}
 use Rattle.record_rules.specs.Journal.{ChainPlace}
 use Rattle.record_rules.specs.Growth.{grow, grown}
@@ -13,8 +12,9 @@ use Rattle.step_rules.specs.Store.{KeyedStore}
 use Rattle.plan_rules.specs.Plans.{PlanStep, Upload, Download}
 use Rattle.world_rules.specs.World.{World, with_journal, with_page, WorldEvent, Append, Send, Deliver, Leads}
 use Rattle.world_rules.specs.Stores.{StoreAsked, store_step}
-use Rattle.rehearsal_rules.specs.Transfers.{Each, next_page, with_taken, Hands, HandsUp, HandsDown, plan_at}
-use Rattle.rehearsal_rules.specs.Rehearsal.{hosts_of, Rehearsal, next_reading, next_bytes, Makes, Plays, runs, deletes, finds_nothing, sets_value, sets_alias, ends_alias, lacks_alias, syncs, crashes}
+use Rattle.rehearsal_rules.specs.Transfers.{Each, next_page, with_taken, Transfers, TransfersUp, TransfersDown, plan_at}
+use Rattle.rehearsal_rules.specs.Moments.{Moment, next_used}
+use Rattle.rehearsal_rules.specs.Rehearsal.{hosts_of, HostCalls, RunsEvent, runs, deletes, finds_nothing, sets_value, sets_alias, ends_alias, lacks_alias, syncs, crashes}
 use Rattle.rehearsal_rules.proofs.Nodes.{node_has_host}
 
 module _ (store : KeyedStore) (hosts : ℕ) where
@@ -57,18 +57,18 @@ module _ (store : KeyedStore) (hosts : ℕ) where
         );
       }
 
-  pub hands_lead : (giver taker : ℕ) (place : ChainPlace) (end : ℕ) → giver ≤ hosts → taker ≤ hosts → (callers : List Caller) (start : ℕ) (w new : World) → Hands giver taker place start end callers w new → LeadsSome w new
+  pub hands_lead : (giver taker : ℕ) (place : ChainPlace) (end : ℕ) → giver ≤ hosts → taker ≤ hosts → (callers : List Caller) (start : ℕ) (w new : World) → Transfers giver taker place start end callers w new → LeadsSome w new
   hands_lead giver taker place end gives takes [] start w new hands = leads_none w new hands.1
   hands_lead giver taker place end gives takes (caller ∷ callers) start w new hands =
       let records = next_page w giver place start end in
       let next = with_taken w records taker hands.1.0 in
       leads_both w next new (page_leads w giver taker place start end caller hands.1.0 gives takes hands.1.1) (hands_lead giver taker place end gives takes callers (start + length records) next new hands.1.2)
 
-  up_leads : (node : ℕ) → node ≤ hosts → (step : PlanStep) (w new : World) → HandsUp node step w new → LeadsSome w new
+  up_leads : (node : ℕ) → node ≤ hosts → (step : PlanStep) (w new : World) → TransfersUp node step w new → LeadsSome w new
   up_leads node within (Upload place start end) w new hands = hands_lead node 0 place end within (omega arith) hands.0 start w new hands.1
   up_leads node within (Download place start end) w new same = leads_none w new same
 
-  down_leads : (node : ℕ) → node ≤ hosts → (step : PlanStep) (w new : World) → HandsDown node step w new → LeadsSome w new
+  down_leads : (node : ℕ) → node ≤ hosts → (step : PlanStep) (w new : World) → TransfersDown node step w new → LeadsSome w new
   down_leads node within (Upload place start end) w new same = leads_none w new same
   down_leads node within (Download place start end) w new hands = hands_lead 0 node place end (omega arith) within hands.0 start w new hands.1
 
@@ -83,33 +83,33 @@ module _ (store : KeyedStore) (hosts : ℕ) where
   any_fit [] = tt
   any_fit (x ∷ xs) = (tt, any_fit xs)
 
-  pub ups_lead : (node : ℕ) → node ≤ hosts → (steps : List PlanStep) (w new : World) → Each (HandsUp node) steps w new → LeadsSome w new
-  ups_lead node within steps w new each = each_leads (λ v. v) (HandsUp node) (λ step. ⊤) (λ step v u fit up. up_leads node within step v u up) steps (any_fit steps) w new each
+  pub ups_lead : (node : ℕ) → node ≤ hosts → (steps : List PlanStep) (w new : World) → Each (TransfersUp node) steps w new → LeadsSome w new
+  ups_lead node within steps w new each = each_leads (λ v. v) (TransfersUp node) (λ step. ⊤) (λ step v u fit up. up_leads node within step v u up) steps (any_fit steps) w new each
 
-  pub downs_lead : (node : ℕ) → node ≤ hosts → (steps : List PlanStep) (w new : World) → Each (HandsDown node) steps w new → LeadsSome w new
-  downs_lead node within steps w new each = each_leads (λ v. v) (HandsDown node) (λ step. ⊤) (λ step v u fit down. down_leads node within step v u down) steps (any_fit steps) w new each
+  pub downs_lead : (node : ℕ) → node ≤ hosts → (steps : List PlanStep) (w new : World) → Each (TransfersDown node) steps w new → LeadsSome w new
+  downs_lead node within steps w new each = each_leads (λ v. v) (TransfersDown node) (λ step. ⊤) (λ step v u fit down. down_leads node within step v u down) steps (any_fit steps) w new each
 
   -- ---- events
 
-  makes_lead : (seed : ℕ) (r : Rehearsal) (host : ℕ) (call : Call) (answer : Answer) (after : Rehearsal) → host < hosts → Makes store seed r host call answer after → LeadsSome r.world after.world
+  makes_lead : (seed : ℕ) (r : Moment) (host : ℕ) (call : Call) (answer : Answer) (after : Moment) → host < hosts → HostCalls store seed r host call answer after → LeadsSome r.world after.world
   makes_lead seed r host call answer after below makes = record {
-    events = Append (host + 1) (record { caller = makes.caller; call = call; used = read_and_drew (next_reading r) (next_bytes seed r host makes.bytes) }) ∷ [];
+    events = Append (host + 1) (record { caller = makes.caller; call = call; used = next_used seed r (host + 1) makes.readings makes.bytes }) ∷ [];
     leads = (
       with_journal r.world (host + 1) makes.journal,
       record { host = host + 1; after = makes.journal; at_host = node_has_host hosts (host + 1) (omega (arith, below)); at_no_server = omega arith; stepped = (answer, makes.fits, makes.stepped); becomes = refl },
-      ap (λ (moment : Rehearsal). moment.world) makes.becomes,
+      ap (λ (moment : Moment). moment.world) makes.becomes,
     );
   }
 
-  pub plays_lead : (seed : ℕ) (r : Rehearsal) (number host row a : ℕ) (after : Rehearsal) → host < hosts → Plays store seed r number host row a after → LeadsSome r.world after.world
+  pub plays_lead : (seed : ℕ) (r : Moment) (number host row a : ℕ) (after : Moment) → host < hosts → RunsEvent store seed r number host row a after → LeadsSome r.world after.world
   plays_lead seed r number host row a after below (runs id idx between at starts ends) = leads_both r.world between.world after.world (makes_lead seed r host _ _ between below starts) (makes_lead seed between host _ _ after below ends)
   plays_lead seed r number host row a after below (deletes hit idx at found makes) = makes_lead seed r host _ _ after below makes
-  plays_lead seed r number host row a after below (finds_nothing at found same) = leads_none r.world after.world (ap (λ (moment : Rehearsal). moment.world) same)
+  plays_lead seed r number host row a after below (finds_nothing at found same) = leads_none r.world after.world (ap (λ (moment : Moment). moment.world) same)
   plays_lead seed r number host row a after below (sets_value idx at makes) = makes_lead seed r host _ _ after below makes
   plays_lead seed r number host row a after below (sets_alias idx at makes) = makes_lead seed r host _ _ after below makes
   plays_lead seed r number host row a after below (ends_alias idx at makes) = makes_lead seed r host _ _ after below makes
-  plays_lead seed r number host row a after below (lacks_alias at lacks same) = leads_none r.world after.world (ap (λ (moment : Rehearsal). moment.world) same)
+  plays_lead seed r number host row a after below (lacks_alias at lacks same) = leads_none r.world after.world (ap (λ (moment : Moment). moment.world) same)
   plays_lead seed r number host row a after below (syncs new at both is) =
       let within : host + 1 ≤ hosts = omega (arith, below) in
-      subst (λ (moment : Rehearsal). LeadsSome r.world moment.world) (sym is) (leads_both r.world both.0 new (ups_lead (host + 1) within (plan_at (host + 1) r.world) r.world both.0 both.1) (downs_lead (host + 1) within (plan_at (host + 1) r.world) both.0 new both.2))
-  plays_lead seed r number host row a after below (crashes at same) = leads_none r.world after.world (ap (λ (moment : Rehearsal). moment.world) same)
+      subst (λ (moment : Moment). LeadsSome r.world moment.world) (sym is) (leads_both r.world both.0 new (ups_lead (host + 1) within (plan_at (host + 1) r.world) r.world both.0 both.1) (downs_lead (host + 1) within (plan_at (host + 1) r.world) both.0 new both.2))
+  plays_lead seed r number host row a after below (crashes at same) = leads_none r.world after.world (ap (λ (moment : Moment). moment.world) same)

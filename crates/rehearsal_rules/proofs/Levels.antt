@@ -17,7 +17,7 @@ use Rattle.world_rules.proofs.Cuts.{cut_is_slice, page_is_cut, chain_goes_on}
 use Rattle.definitions.proofs.Prefixes.{prefix-itself}
 use Rattle.world_rules.proofs.Batches.{chain_append}
 use Rattle.world_rules.proofs.Kept.{Holds, same_or_other}
-use Rattle.rehearsal_rules.specs.Transfers.{Each, next_page, with_taken, Hands}
+use Rattle.rehearsal_rules.specs.Transfers.{Each, next_page, with_taken, Transfers}
 use Rattle.rehearsal_rules.specs.Rehearsal.{hosts_of}
 use Rattle.rehearsal_rules.proofs.Nodes.{node_has_host}
 use Rattle.rehearsal_rules.proofs.Leading.{page_leads}
@@ -47,7 +47,7 @@ pub record Part : Type 0 where
 -- what a step does: one node hands the other one a part of a chain, or nothing
 abbrev pub Did : (giver taker : ℕ) → Option Part → World → World → Type 0
 Did giver taker None w new = new ≡ w
-Did giver taker (Some part) w new = (callers : List Caller) × Hands giver taker part.place part.start part.end callers w new
+Did giver taker (Some part) w new = (callers : List Caller) × Transfers giver taker part.place part.start part.end callers w new
 
 -- where the taker's chain reached the part's start, it reaches its end
 abbrev pub Reaches : ℕ → Option Part → World → World → Type 0
@@ -133,7 +133,7 @@ module _ (store : KeyedStore) (well : SealsWell store) (hosts : ℕ) where
       pub moved : Moved giver taker w new
       pub reaches : start ≤ count w taker place.host place.tag → end ≤ count new taker place.host place.tag
 
-    handed : (place : ChainPlace) (end : ℕ) (callers : List Caller) (start : ℕ) (w new : World) → Holds (hosts_of hosts) w → Hands giver taker place start end callers w new → Handed place start end w new
+    handed : (place : ChainPlace) (end : ℕ) (callers : List Caller) (start : ℕ) (w new : World) → Holds (hosts_of hosts) w → Transfers giver taker place start end callers w new → Handed place start end w new
     handed place end [] start w new holds hands = record {
       moved = moved_none giver taker w new holds hands.1;
       reaches = λ low. let done : end ≤ start = hands.0 in subst (λ v. end ≤ count v taker place.host place.tag) (sym hands.1) (omega (arith, done, low));

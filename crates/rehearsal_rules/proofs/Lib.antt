@@ -7,3 +7,5 @@ pub mod Levels
 pub mod Alike
 pub mod Examples
 pub mod Rows
+pub mod Running
+pub mod Shown

@@ -3,7 +3,7 @@ use Rattle.std.proofs.Common.{◌≡◌, ℕ, zero, suc, ◌+◌, ◌<◌, ◌�
 use Rattle.std.specs.Prelude.{slice_get}
 use Rattle.std.specs.List.{range_with_len, AllByRecursion}
 use Rattle.std.proofs.lemmas.Option.{none-some, same_Some}
-use Rattle.record_rules.proofs.Members.{Has, Has-from_place}
+use Rattle.record_rules.proofs.Members.{Has, Has-from_place, place_of_Has}
 use Rattle.world_rules.specs.World.{host_at}
 use Rattle.rehearsal_rules.specs.Rehearsal.{hosts_of}
 use Rattle.rehearsal_rules.specs.Laws.{HostsOfDiffer}
@@ -34,6 +34,14 @@ node_has_host hosts node within = run_at 0 (suc hosts) node (omega (arith, withi
 pub is_a_host : (hosts node : ℕ) → 1 ≤ node → node ≤ hosts → Has (hosts_of hosts) node
 is_a_host hosts (suc k) low high = Has-from_place (hosts_of hosts) k (suc k) (run_at 1 hosts k (omega (arith, high)) ∙ ap Some (omega arith))
 is_a_host hosts zero low high = absurd (omega (arith, low))
+
+pub host_is_in : (hosts node : ℕ) → Has (hosts_of hosts) node → (1 ≤ node) × (node ≤ hosts)
+host_is_in hosts node has =
+    let place = place_of_Has (hosts_of hosts) node has in
+    let found = stands_in_run 1 hosts place.0 node place.1 in
+    let below : place.0 < hosts = found.0 in
+    let is : node ≡ 1 + place.0 = found.1 in
+    (omega (arith, is), omega (arith, is, below))
 
 pub hosts_differ : HostsOfDiffer
 hosts_differ hosts node other host at at_other = sym (node_is_host hosts node host at).1 ∙ (node_is_host hosts other host at_other).1

@@ -10,7 +10,8 @@ use Rattle.world_rules.proofs.Kept.{Holds, leads_holds}
 use Rattle.world_rules.proofs.Stores.{store_makes, store_world_holds}
 use Rattle.rehearsal_rules.specs.Words.{nth_word}
 use Rattle.rehearsal_rules.specs.Transfers.{Each, Uploads, Downloads, plan_at}
-use Rattle.rehearsal_rules.specs.Rehearsal.{key_of, hosts_of, Rehearsal, first_moment, PlaysEvent, Rehearsed}
+use Rattle.rehearsal_rules.specs.Moments.{Moment, first_moment}
+use Rattle.rehearsal_rules.specs.Rehearsal.{key_of, hosts_of, RunsNumber, Rehearsed}
 use Rattle.rehearsal_rules.specs.Laws.{InEachRehearsal, IsReached}
 use Rattle.rehearsal_rules.proofs.Nodes.{all_in_run, hosts_differ}
 use Rattle.rehearsal_rules.proofs.Leading.{LeadsSome, leads_both, each_leads, ups_lead, downs_lead, plays_lead}
@@ -32,11 +33,11 @@ module _ (keyed : List ℕ → KeyedStore) (seed hosts events : ℕ) (some : 0 <
   abbrev store : KeyedStore
   store = keyed (key_of seed)
 
-  event_leads : (number : ℕ) (r after : Rehearsal) → PlaysEvent store seed hosts number r after → LeadsSome store hosts r.world after.world
+  event_leads : (number : ℕ) (r after : Moment) → RunsNumber store seed hosts number r after → LeadsSome store hosts r.world after.world
   event_leads number r after plays = plays_lead store hosts seed r number (nth_word seed (number - 1) % hosts) _ _ after (mod_below (nth_word seed (number - 1)) hosts some) plays
 
-  pub played_leads : (played : Rehearsal) → Each (PlaysEvent store seed hosts) (range_with_len 1 events) first_moment played → LeadsSome store hosts empty_world played.world
-  played_leads played plays = each_leads store hosts (λ (r : Rehearsal). r.world) (PlaysEvent store seed hosts) (λ number. ⊤) (λ number r after fit one. event_leads number r after one) (range_with_len 1 events) (any_number 1 events) first_moment played plays
+  pub played_leads : (played : Moment) → Each (RunsNumber store seed hosts) (range_with_len 1 events) first_moment played → LeadsSome store hosts empty_world played.world
+  played_leads played plays = each_leads store hosts (λ (r : Moment). r.world) (RunsNumber store seed hosts) (λ number. ⊤) (λ number r after fit one. event_leads number r after one) (range_with_len 1 events) (any_number 1 events) first_moment played plays
 
   uploads_lead : (w new : World) → Each Uploads (hosts_of hosts) w new → LeadsSome store hosts w new
   uploads_lead w new each = each_leads store hosts (λ v. v) Uploads (λ node. (1 ≤ node) × (node ≤ hosts)) (λ node v u fit ups. ups_lead store hosts node fit.1 (plan_at node v) v u ups) (hosts_of hosts) (hosts_fit hosts) w new each
@@ -46,7 +47,7 @@ module _ (keyed : List ℕ → KeyedStore) (seed hosts events : ℕ) (some : 0 <
 
   pub rehearsed_leads : (w : World) → Rehearsed keyed seed hosts events w → LeadsSome store hosts empty_world w
   rehearsed_leads w r =
-      leads_both store hosts empty_world r.played.world w (played_leads r.played r.plays) (leads_both store hosts r.played.world r.uploaded w (uploads_lead r.played.world r.uploaded r.uploads) (downloads_lead r.uploaded w r.downloads))
+      leads_both store hosts empty_world r.played.world w (played_leads r.played r.ran) (leads_both store hosts r.played.world r.uploaded w (uploads_lead r.played.world r.uploaded r.uploads) (downloads_lead r.uploaded w r.downloads))
 
 pub is_reached : InEachRehearsal IsReached
 is_reached keyed seed hosts events w well some rehearsed = let found = rehearsed_leads keyed seed hosts events some w rehearsed in (found.events, found.leads)

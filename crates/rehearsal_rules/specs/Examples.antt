@@ -9,11 +9,14 @@ use Rattle.record_rules.specs.Examples.{caller, placed_record, entry_of}
 use Rattle.record_rules.specs.Journal.{status}
 use Rattle.plan_rules.specs.Plans.{Upload, Download}
 use Rattle.step_rules.specs.Store.{KeyedStore}
-use Rattle.world_rules.specs.World.{World, empty_world, with_journal}
+use Rattle.step_rules.specs.Calls.{Call, kv_set_call, status_call}
+use Rattle.world_rules.specs.World.{World, empty_world, with_journal, WorldEvent, Append, Send, Deliver, Crash}
 use Rattle.world_rules.specs.Examples.{command_record, made_entry}
 use Rattle.rehearsal_rules.specs.Words.{nth_word, words_for, drawn_bytes}
-use Rattle.rehearsal_rules.specs.Transfers.{with_taken, Hands, plan_at, Uploads, Downloads, Syncs}
-use Rattle.rehearsal_rules.specs.Rehearsal.{key_of, hosts_of, Rehearsal, first_moment, Plays, Rehearsed}
+use Rattle.rehearsal_rules.specs.Transfers.{with_taken, Transfers, plan_at, Uploads, Downloads, Syncs}
+use Rattle.rehearsal_rules.specs.Moments.{Moment, first_moment}
+use Rattle.rehearsal_rules.specs.Runs.{IsBadEvent, RunsTo, StopsAt}
+use Rattle.rehearsal_rules.specs.Rehearsal.{key_of, hosts_of, RunsEvent, Rehearsed}
 
 pub record WorkedWords : Type 0 where
   pub words : nth_word 0 0 ∷ nth_word 0 1 ∷ nth_word 0 2 ∷ [] ≡ 0xe220a8397b1dcdaf ∷ 0x6e789e6aa1b965f4 ∷ 0x06c45d188009454f ∷ []
@@ -52,25 +55,25 @@ said_record host tag idx id time says last =
 -- ---- one event of each row, of seed 0 and number 5, at host 1, with 12 for a
 
 -- the moment when host 1 has this journal, the clock was read twice, and host 1 has drawn 16 words
-abbrev pub moment_at : List Entry → Rehearsal
-moment_at journal = record { world = with_journal empty_world 2 journal; readings = 2; drawn = λ host. 16 }
+abbrev pub moment_at : List Entry → Moment
+moment_at journal = record { world = with_journal empty_world 2 journal; readings = 2; drawn = λ node. 16 }
 
 -- what one call there leaves: one record more of a chain, which the third reading and the words from the 17th on made
 abbrev pub one_more : List Entry → (tag : List ℕ) (idx : ℕ) (says : List ℕ) → List Entry
 one_more journal tag idx says = journal ++ entry_of (Local None (said_record 2 tag idx 0x018bcfe5680272e79a9de0043c33d4f3 1700000000002000000 says (0x82 ∷ 0x6d ∷ []))) ∷ []
 
 -- such an event from this journal leads to that one
-pub record PlaysOne (opened : Option Payload) (row : ℕ) (journal after : List Entry) : Type 0 where
-  pub next : Rehearsal
-  pub plays : Plays (open_store opened (replicate 32 0)) 0 (moment_at journal) 5 1 row 12 next
+pub record OneEvent (opened : Option Payload) (row : ℕ) (journal after : List Entry) : Type 0 where
+  pub next : Moment
+  pub runs : RunsEvent (open_store opened (replicate 32 0)) 0 (moment_at journal) 5 1 row 12 next
   pub journal_is : next.world.journal 2 ≡ after
   pub readings_are : next.readings ≡ 3
-  pub words_are : next.drawn 1 ≡ 30
-  pub others_are : next.drawn 0 ≡ 16
+  pub words_are : next.drawn 2 ≡ 30
+  pub others_are : next.drawn 1 ≡ 16
 
 -- such an event leaves all
-abbrev pub PlaysNone : Option Payload → (row : ℕ) → List Entry → Type 0
-PlaysNone opened row journal = Plays (open_store opened (replicate 32 0)) 0 (moment_at journal) 5 1 row 12 (moment_at journal)
+abbrev pub NoEvent : Option Payload → (row : ℕ) → List Entry → Type 0
+NoEvent opened row journal = RunsEvent (open_store opened (replicate 32 0)) 0 (moment_at journal) 5 1 row 12 (moment_at journal)
 
 -- an alias that host 1 has, and a command that ended there
 abbrev pub an_alias : Entry
@@ -81,26 +84,26 @@ ended = made_entry 2 0 11
 
 pub record WorkedRows : Type 0 where
   -- a command starts and ends: the clock is read twice, and 2 and 14 words are drawn
-  pub ran : Rehearsal
-  pub runs_two : Plays (open_store None (replicate 32 0)) 0 first_moment 5 1 2 12 ran
+  pub ran : Moment
+  pub runs_two : RunsEvent (open_store None (replicate 32 0)) 0 first_moment 5 1 2 12 ran
   pub ran_journal : ran.world.journal 2
       ≡ entry_of (Started (record { id = 0x018bcfe568007e56971cde355897421e; timestamp = 1700000000000000000; command = codes "c12"; cwd = codes "/"; session = codes "s1"; hostname = codes "h1:u" }))
       ∷ entry_of (Local (Some 0x018bcfe568007e56971cde355897421e) (said_record 2 (codes "history") 0 0x018bcfe568017f53beddbfbc7b9864f6 1700000000001000000 (codes "c12/s1h1:u12000") (0x19 ∷ 0x32 ∷ []))) ∷ []
   pub ran_readings : ran.readings ≡ 2
-  pub ran_words : ran.drawn 1 ≡ 16
+  pub ran_words : ran.drawn 2 ≡ 16
   -- the first hit is deleted, and nothing is where none is there
-  pub deletes_hit : PlaysOne (Some (HistoryCreate ls_ended)) 3 (ended ∷ []) (one_more (ended ∷ []) (codes "history") 1 (id_text ls_ended.id))
-  pub deletes_none : PlaysNone None 3 []
-  pub hit_stays : PlaysNone (Some (HistoryCreate ls_ended)) 3 (ended ∷ []) → ⊥
-  pub sets_key : PlaysOne None 4 [] (one_more [] (codes "kv") 0 (codes "nk12v5"))
-  pub sets_name : PlaysOne None 5 [] (one_more [] (codes "dotfiles-shell-alias") 0 (codes "a12v5"))
+  pub deletes_hit : OneEvent (Some (HistoryCreate ls_ended)) 3 (ended ∷ []) (one_more (ended ∷ []) (codes "history") 1 (id_text ls_ended.id))
+  pub deletes_none : NoEvent None 3 []
+  pub hit_stays : NoEvent (Some (HistoryCreate ls_ended)) 3 (ended ∷ []) → ⊥
+  pub sets_key : OneEvent None 4 [] (one_more [] (codes "kv") 0 (codes "nk12v5"))
+  pub sets_name : OneEvent None 5 [] (one_more [] (codes "dotfiles-shell-alias") 0 (codes "a12v5"))
   -- the alias is deleted, and nothing is where it isn't there
-  pub ends_name : PlaysOne (Some (AliasSet (codes "a12") (codes "v1"))) 6 (an_alias ∷ []) (one_more (an_alias ∷ []) (codes "dotfiles-shell-alias") 1 (codes "a12"))
-  pub ends_none : PlaysNone None 6 []
-  pub alias_stays : PlaysNone (Some (AliasSet (codes "a12") (codes "v1"))) 6 (an_alias ∷ []) → ⊥
+  pub ends_name : OneEvent (Some (AliasSet (codes "a12") (codes "v1"))) 6 (an_alias ∷ []) (one_more (an_alias ∷ []) (codes "dotfiles-shell-alias") 1 (codes "a12"))
+  pub ends_none : NoEvent None 6 []
+  pub alias_stays : NoEvent (Some (AliasSet (codes "a12") (codes "v1"))) 6 (an_alias ∷ []) → ⊥
   -- a crash leaves all, and leaves no other way
-  pub crashed : PlaysNone None 9 (ended ∷ [])
-  pub crash_leaves : (next : Rehearsal) → Plays (open_store None (replicate 32 0)) 0 (moment_at (ended ∷ [])) 5 1 9 12 next → next ≡ moment_at (ended ∷ [])
+  pub crashed : NoEvent None 9 (ended ∷ [])
+  pub crash_leaves : (next : Moment) → RunsEvent (open_store None (replicate 32 0)) 0 (moment_at (ended ∷ [])) 5 1 9 12 next → next ≡ moment_at (ended ∷ [])
 
 -- ---- transfers: node 1 has a record of its own, and the server has one of host 2
 
@@ -133,12 +136,12 @@ pub record WorkedTransfers : Type 0 where
   pub syncs_both : Syncs 1 apart both
   pub both_have : HasJournals both (taken (command_record 2 0 21) ∷ taken (command_record 1 0 11) ∷ []) (made_entry 1 0 11 ∷ taken (command_record 2 0 21) ∷ []) ((command_record 1 0 11 ∷ []) ∷ (command_record 2 0 21 ∷ []) ∷ [])
   -- as two rows have it
-  pub row_seven : Plays (open_store None []) 0 (record { world = apart; readings = 0; drawn = λ host. 0 }) 5 0 7 12 (record { world = both; readings = 0; drawn = λ host. 0 })
-  pub row_eight : Plays (open_store None []) 0 (record { world = apart; readings = 0; drawn = λ host. 0 }) 5 0 8 12 (record { world = both; readings = 0; drawn = λ host. 0 })
+  pub row_seven : RunsEvent (open_store None []) 0 (record { world = apart; readings = 0; drawn = λ node. 0 }) 5 0 7 12 (record { world = both; readings = 0; drawn = λ node. 0 })
+  pub row_eight : RunsEvent (open_store None []) 0 (record { world = apart; readings = 0; drawn = λ node. 0 }) 5 0 8 12 (record { world = both; readings = 0; drawn = λ node. 0 })
   -- of three records only the second one is handed over
-  pub second_only : Hands 1 0 (record { host = 1; tag = codes "history" }) 1 2 (caller ∷ []) three (with_taken three (command_record 1 1 12 ∷ []) 0 (taken (command_record 1 1 12) ∷ []))
+  pub second_only : Transfers 1 0 (record { host = 1; tag = codes "history" }) 1 2 (caller ∷ []) three (with_taken three (command_record 1 1 12 ∷ []) 0 (taken (command_record 1 1 12) ∷ []))
   -- and nothing is handed over where the part is empty
-  pub none_handed : (callers : List Caller) (new : World) → Hands 1 0 (record { host = 1; tag = codes "history" }) 1 1 callers apart new → new ≡ apart
+  pub none_handed : (callers : List Caller) (new : World) → Transfers 1 0 (record { host = 1; tag = codes "history" }) 1 1 callers apart new → new ≡ apart
 
 -- ---- a whole rehearsal: seed 0, one host, three events
 
@@ -158,3 +161,28 @@ pub record WorkedRehearsal : Type 0 where
   pub sent : world.sent ≡ (first_value ∷ second_value ∷ []) ∷ []
   pub status_of_host : status (world.journal 1) 0 ≡ record { host = 1; tag = codes "kv"; count = 2 } ∷ []
   pub status_of_server : status (world.journal 0) 0 ≡ record { host = 1; tag = codes "kv"; count = 2 } ∷ []
+
+-- ---- a run by a list of events: host 7 sets a value, sends it to the server, and the server crashes
+
+abbrev pub value_of_seven : SealedRecord
+value_of_seven = said_record 7 (codes "kv") 0 0x018bcfe56800715c8289ec2d0a9167ec 1700000000000000000 (codes "nkv") (0x8a ∷ 0xa2 ∷ [])
+
+abbrev pub run_events : List (WorldEvent Call)
+run_events = Append 1 (kv_set_call (codes "n") (codes "k") (codes "v")) ∷ Append 1 status_call ∷ Send 1 7 (codes "kv") 0 10 ∷ Deliver 0 0 caller ∷ Crash 0 ∷ []
+
+-- it stops at the event of this number, which is bad
+abbrev pub StopsBadly : List (WorldEvent Call) → ℕ → Type 0
+StopsBadly events number = StopsAt (open_store None (replicate 32 0)) (7 ∷ []) events number (λ r event. IsBadEvent (7 ∷ []) r.world event)
+
+pub record WorkedRun : Type 0 where
+  pub moment : Moment
+  pub runs : RunsTo (open_store None (replicate 32 0)) (7 ∷ []) run_events moment
+  pub of_host : moment.world.journal 1 ≡ entry_of (Local None value_of_seven) ∷ []
+  pub of_server : moment.world.journal 0 ≡ taken value_of_seven ∷ []
+  -- the call that only asked read no clock, and drew nothing
+  pub readings : moment.readings ≡ 1
+  pub drawn : moment.drawn 1 ≡ 14
+  -- a page that wasn't sent, a node that isn't there, and a call at the server
+  pub unsent : StopsBadly (Deliver 0 0 caller ∷ []) 0
+  pub no_node : StopsBadly (Crash 1 ∷ Crash 2 ∷ []) 1
+  pub at_server : StopsBadly (Append 0 status_call ∷ []) 0

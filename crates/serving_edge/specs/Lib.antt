@@ -1,0 +1,9 @@
+pub mod Connections
+pub mod Listening
+pub mod Working
+pub mod Pacing
+pub mod KeptViews
+pub mod ListenerViews
+pub mod SpawnerViews
+pub mod PacerViews
+pub mod SocketViews

@@ -38,6 +38,7 @@ stays = record {
   left_is = refl;
   left_faults = refl;
   alone = λ _. (refl, refl);
+  crash = λ _. refl;
   turns = tt;
 }
 

@@ -14,6 +14,8 @@ use Rattle.session_rules.specs.Passes.{TurnItem, TurnsFor}
 use Rattle.session_rules.specs.Stores.{StoreState, StoreTurn, RunTurn, IsRunTurn, IsRun, last_left, run_used}
 use Rattle.session_rules.proofs.Growing.{session_grows}
 use Rattle.session_rules.proofs.Turns.{turns_follow}
+use Rattle.session_crashes.specs.Crashes.{TurnLeaves}
+use Rattle.session_crashes.proofs.Runs.{leaves_more}
 use Rattle.session_seats.specs.Stores.{StoreFixed, StoreSeen, store_turn, AddsTurn, TurnsTold, AnswersIn, RunsAlone}
 
 -- ---- requests
@@ -74,7 +76,7 @@ used_more [] one = then_used-nothing one.used ∙ sym (nothing-then_used one.use
 used_more (x ∷ turns) one = ap (then_used x.used) (used_more turns one) ∙ sym (then_used-assoc x.used (run_used turns) one.used)
 
 pub runs_nothing : (old : StoreSeen) → RunsAlone old old [] used_nothing []
-runs_nothing old = record { turns = []; run = tt; left_is = refl; requests_are = refl; used_is = refl; replies_are = refl }
+runs_nothing old = record { turns = []; run = tt; left_is = refl; requests_are = refl; used_is = refl; replies_are = refl; crash = refl }
 
 -- the turn of a store that was found as it was left
 turn_alone : (old new : StoreSeen) (state : StoreState) (call : ℕ) (one : Asked) (used : Used) (reply : Reply) → old.fixed.alone ≡ true → state ≡ old.state → AnswersIn old new call one used reply
@@ -93,6 +95,9 @@ runs_more first old new requests used replies call one used_here reply fixed alo
     let item : RunTurn = record { request = record { call = call; asked = one }; used = used_here; reply = call_reply reply; left = new.state } in
     let turn : IsRunTurn first.fixed.keyed first.fixed.number (last_left first.state runs.turns) item =
     subst (λ (f : StoreFixed). IsRunTurn f.keyed f.number (last_left first.state runs.turns) item) (sym fixed) (turn_alone old new (last_left first.state runs.turns) call one used_here reply alone runs.left_is t) in
+    let leaves : TurnLeaves first.fixed.keyed.host (last_left first.state runs.turns) new.state old.history new.history =
+    subst (λ (state : StoreState). TurnLeaves first.fixed.keyed.host state new.state old.history new.history) (sym runs.left_is)
+    (subst (λ (f : StoreFixed). TurnLeaves f.keyed.host old.state new.state old.history new.history) (sym fixed) (t.turn.crash alone)) in
     record {
       turns = runs.turns ++ item ∷ [];
       run = run_more first.fixed.keyed first.fixed.number first.state runs.turns item runs.run turn;
@@ -100,6 +105,7 @@ runs_more first old new requests used replies call one used_here reply fixed alo
       requests_are = map-append (λ (x : RunTurn). x.request) runs.turns (item ∷ []) ∙ ap (λ (xs : List SessionRequest). xs ++ item.request ∷ []) runs.requests_are;
       used_is = used_more runs.turns item ∙ ap (λ (u : Used). then_used u used_here) runs.used_is;
       replies_are = map-append (λ (x : RunTurn). x.reply) runs.turns (item ∷ []) ∙ ap (λ (xs : List SessionReply). xs ++ call_reply reply ∷ []) runs.replies_are;
+      crash = leaves_more first.fixed.keyed.host first.state runs.turns item first.history old.history new.history runs.crash leaves;
     }
 
 -- ---- the turns that a store tells

@@ -12,4 +12,4 @@ abbrev pub empty_state : StoreState
 empty_state = record { entries = []; doubt = []; faults = 0 }
 
 abbrev pub empty_store : StoreSeen
-empty_store = record { fixed = record { keyed = blind_store; has_key = true; number = 1; alone = true }; state = empty_state; turns = None }
+empty_store = record { fixed = record { keyed = blind_store; has_key = true; number = 1; alone = true }; state = empty_state; turns = None; history = None }

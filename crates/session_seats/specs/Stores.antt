@@ -9,6 +9,8 @@ use Rattle.step_rules.specs.PageTurns.{PageLeaves}
 use Rattle.session_rules.specs.Sessions.{Asked, SessionRequest, SessionReply, to_call, caller_of, is_of}
 use Rattle.session_rules.specs.Passes.{TurnItem, TurnsOf}
 use Rattle.session_rules.specs.Stores.{StoreState, StoreTurn, RunTurn, IsRun, last_left, run_requests, run_used, run_replies}
+use Rattle.disk_rules.specs.History.{History}
+use Rattle.session_crashes.specs.Crashes.{TurnLeaves, RunLeaves}
 
 -- What never changes: host, seals and what opens, whether a key was given, the number under which calls are made, and whether nobody else has turns
 -- at the store.
@@ -18,12 +20,13 @@ pub record StoreFixed : Type 0 where
   pub number : ℕ
   pub alone : Bool
 
--- The store as the last turn left it, and the turns so far, None where it doesn't tell of them. What is in doubt is told of a store that is lent
--- alone.
+-- The store as the last turn left it; the turns so far, and what its disk went through, each None where it doesn't tell of them. What is in doubt
+-- is told of a store that is lent alone.
 pub record StoreSeen : Type 0 where
   pub fixed : StoreFixed
   pub state : StoreState
   pub turns : Option (List TurnItem)
+  pub history : Option History
 
 -- the turn in which this store was found and that one was left
 abbrev pub store_turn : StoreState → StoreState → TurnItem
@@ -42,7 +45,7 @@ TurnsTold (Some before) replies None = ⊥
 TurnsTold (Some before) replies (Some after) = TurnsOf before replies after
 
 -- In a turn the store is found as it was seen, with entries of others behind, and no fewer faults; and it is seen as it is left. A store that is
--- lent alone is found as it was left.
+-- lent alone is found as it was left, and a crash within the turn leaves it so or as the turn leaves it.
 pub record HasTurn (old new : StoreSeen) (found left : StoreState) : Type 0 where
   pub named : old.fixed.number ≢ 0
   pub since : List Entry
@@ -53,6 +56,7 @@ pub record HasTurn (old new : StoreSeen) (found left : StoreState) : Type 0 wher
   pub left_is : left.entries ≡ new.state.entries
   pub left_faults : left.faults ≡ new.state.faults
   pub alone : old.fixed.alone ≡ true → (found ≡ old.state) × (left ≡ new.state)
+  pub crash : old.fixed.alone ≡ true → TurnLeaves old.fixed.keyed.host old.state new.state old.history new.history
   pub turns : AddsTurn old.turns (store_turn found left) new.turns
 
 -- What is asked in the call of this number is answered in one turn, at the front that the turn leaves.
@@ -72,7 +76,8 @@ pub record FrontTold (old new : StoreSeen) (front : ℕ) : Type 0 where
   pub counted : found.faults ≤ left.faults
   pub front_is : front ≡ length left.entries
 
--- A store that is lent alone made a run of turns, which leaves it as it is then seen.
+-- A store that is lent alone made a run of turns, which leaves it as it is then seen. A crash within a turn leaves what the turn found or what it
+-- leaves, and from its end on what it leaves.
 pub record RunsAlone (old new : StoreSeen) (requests : List SessionRequest) (used : Used) (replies : List SessionReply) : Type 0 where
   pub turns : List RunTurn
   pub run : IsRun old.fixed.keyed old.fixed.number old.state turns
@@ -80,3 +85,4 @@ pub record RunsAlone (old new : StoreSeen) (requests : List SessionRequest) (use
   pub requests_are : run_requests turns ≡ requests
   pub used_is : run_used turns ≡ used
   pub replies_are : run_replies turns ≡ replies
+  pub crash : RunLeaves old.fixed.keyed.host old.state turns old.history new.history

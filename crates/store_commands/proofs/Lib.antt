@@ -1,4 +1,5 @@
 pub mod Kept
 pub mod Hits
 pub mod Doubts
+pub mod Staying
 pub mod PipedSession

@@ -1,5 +1,5 @@
 -- What a session leaves of a store that was opened for it.
-use Rattle.std.proofs.Common.{◌≡◌, ◌⊎◌, inl, inr, ℕ, ◌≤◌, true, List, [], map, Some, None, Result, refl, sym, ap, subst, arith}
+use Rattle.std.proofs.Common.{◌≡◌, ◌⊎◌, inl, inr, ℕ, ◌≤◌, true, List, [], map, Option, Some, None, Result, refl, sym, ap, subst, arith}
 use Rattle.std.specs.Prelude.{◌≢◌}
 use Rattle.std.specs.Option.{unwrap_or, is_some}
 use Rattle.definitions.specs.Counts.{Rose, RoseBy}
@@ -13,7 +13,10 @@ use Rattle.session_rules.specs.Stores.{StoreState, last_left}
 use Rattle.session_rules.proofs.Stores.{run_counts}
 use Rattle.session_rules.proofs.Telling.{session_draws}
 use Rattle.record_seal.proofs.StoreSealing.{record_sealing}
+use Rattle.disk_rules.specs.History.{History}
+use Rattle.session_crashes.specs.Crashes.{LeavesState, RunLeaves}
 use Rattle.at_edge.specs.Storing.{DiskSeen, Tells}
+use Rattle.record_log.specs.Opening.{LeavesNoMore}
 use Rattle.at_edge.specs.declared.ending.Served.{Served}
 use Rattle.at_edge.specs.declared.ending.SessionFail.{SessionFail}
 use Rattle.call_supplies.specs.Supplies.{Supplies}
@@ -30,6 +33,7 @@ use Rattle.store_commands.specs.Ends.{KeepsLog}
 use Rattle.store_commands.specs.Piping.{opened_alone, EndsAsTold, PipesSession}
 use Rattle.store_commands.proofs.Kept.{keeps}
 use Rattle.store_commands.proofs.Doubts.{run_settles}
+use Rattle.store_commands.proofs.Staying.{crash_keeps}
 
 -- ---- the store that was opened
 
@@ -46,11 +50,12 @@ module _ (old : DiskSeen) (told : ToldSeen) (opens : OpensTold old told.store to
   unfolding opens_store
   keeps_log settled = keeps old told.store opens_store settled
 
-  is_alone : (key : List ℕ) → told.store.key ≡ Some key → lone_seen told ≡ opened_alone told.store.log.host key opens.events told.store.log.disk.faults
+  is_alone : (key : List ℕ) → told.store.key ≡ Some key → lone_seen told ≡ opened_alone told.store.log.host key opens.events told.store.log.disk
   is_alone key has = λ i. record {
     fixed = record { keyed = keyed_store record_sealing told.store.log.host (unwrap_or (has i) []); has_key = is_some (has i); number = 1; alone = true };
     state = record { entries = opens.entries i; doubt = opens.settled i; faults = opens.first.told.counted i };
     turns = Some (opens.first.none i);
+    history = told.store.log.disk.history;
   }
 
 -- ---- what the session leaves
@@ -81,6 +86,7 @@ pub record LeftDisk (told : ToldSeen) (new : DiskSeen) : Type 0 where
   pub holds : told.note.state.doubt ≡ [] → Tells new (HoldsEntries told.store.log.host told.note.state.entries)
   pub doubts : told.note.state.doubt ≢ [] → Tells new (DoubtsEntries told.store.log.host told.note.state.entries told.note.state.doubt)
   pub counted : told.note.state.faults ≡ new.faults
+  pub history : told.store.log.disk.history ≡ new.history
 
 holds_there : (host there : ℕ) (entries : List Entry) (new : DiskSeen) → there ≡ host → Tells new (HoldsEntries there entries) → Tells new (HoldsJournal host entries)
 holds_there host there entries new same = tells_so new (HoldsEntries there entries) (HoldsJournal host entries) (λ disk held. subst (λ (h : ℕ). HoldsJournal h entries disk) same (record { gate = held.0; log = held.1 }))
@@ -97,14 +103,16 @@ risen told some (inr is) none = is
 
 module _ (outcome : Result Served SessionFail) (key : List ℕ) (old new : DiskSeen) (told last : ToldSeen) (before after : Supplies) (from to : Pipe) where
   -- the session of a store that was opened on this disk
-  pub pipes_session : OpensTold old told.store told.note → told.store.doubt ≡ None → told.store.key ≡ Some key → ServesAlone outcome (lone_seen told) (lone_seen last) before after from to → EndsAsTold outcome from → LeftDisk last new
+  pub pipes_session : OpensTold old told.store told.note → told.store.doubt ≡ None → told.store.key ≡ Some key → LeavesNoMore old.history told.store.log.disk.history → ServesAlone outcome (lone_seen told) (lone_seen last) before after from to → EndsAsTold outcome from → LeftDisk last new
       → PipesSession outcome key old new before after from to
-  pipes_session opens settled has serves_lone ends left =
+  pipes_session opens settled has opening serves_lone ends left =
       let host = told.store.log.host in
       let opened = told.store.log.disk in
-      let first = opened_alone host key opens.events opened.faults in
+      let first = opened_alone host key opens.events opened in
       let serves : ServesAlone outcome first (lone_seen last) before after from to = subst (λ (s : StoreSeen). ServesAlone outcome s (lone_seen last) before after from to) (is_alone old told opens key has) serves_lone in
       let same : last.store.log.host ≡ host = ap (λ (f : StoreFixed). f.keyed.host) serves.serves.fixed in
+      let start : LeavesState host first.state opened.history = subst (λ (s : StoreSeen). LeavesState host s.state opened.history) (is_alone old told opens key has) opens.leaves in
+      let leaves : RunLeaves host first.state serves.runs.turns opened.history new.history = subst (λ (now : Option History). RunLeaves host first.state serves.runs.turns opened.history now) left.history serves.runs.crash in
       let grown : old.faults ≤ opened.faults = opens.synced.faults in
       let counts : RoseBy (disk_faults (map call_reply serves.serves.replies)) opened.faults last.note.state.faults = disk_counts outcome first (lone_seen last) before after from to serves in
       record {
@@ -122,6 +130,7 @@ module _ (outcome : Result Served SessionFail) (key : List ℕ) (old new : DiskS
               let rose : Rose opened.faults last.note.state.faults = risen (last.note.state.doubt ≡ []) (Rose opened.faults last.note.state.faults) (doubt_counts outcome first (lone_seen last) before after from to serves refl) some in
               subst (λ (n : ℕ). Rose old.faults n) left.counted (Rose-later old.faults opened.faults last.note.state.faults grown rose);
         };
+        crash = crash_keeps first.fixed.keyed first.fixed.number host first.state last.note.state serves.runs.turns old.history opened.history new.history serves.runs.run serves.runs.left_is opening start leaves;
         faults = record {
           of_disk = rose_since (disk_faults (map call_reply serves.serves.replies)) old.faults opened.faults last.note.state.faults new.faults grown counts left.counted;
           of_random = random_counts outcome first (lone_seen last) before after from to serves;

@@ -1,13 +1,16 @@
 -- A session over the store that stands on a disk.
-use Rattle.std.specs.Prelude.{◌≡◌, ◌≢◌, ℕ, List, [], ◌++◌, map, true, Result, Ok, Err, Some, None}
+use Rattle.std.specs.Prelude.{◌≡◌, ◌≢◌, ℕ, List, [], ◌++◌, map, true, Result, Ok, Err, Option, Some, None}
 use Rattle.definitions.specs.Counts.{Rose, RoseBy}
 use Rattle.definitions.specs.Frames.{frames, CutAfter}
 use Rattle.record_rules.specs.Records.{Event}
+use Rattle.disk_rules.specs.History.{History}
 use Rattle.log_rules.specs.Opened.{opened_journal}
 use Rattle.step_rules.specs.Answers.{Reply}
 use Rattle.step_rules.specs.Sealing.{keyed_store}
 use Rattle.session_rules.specs.Sessions.{call_reply, told_random_faults}
 use Rattle.session_rules.specs.Passes.{disk_faults}
+use Rattle.session_rules.specs.Stores.{StoreState, RunTurn}
+use Rattle.session_crashes.specs.Crashes.{LeftSinceOrThen, with_doubt, IsBetween, AnswersStay}
 use Rattle.record_seal.proofs.StoreSealing.{record_sealing}
 use Rattle.at_edge.specs.Storing.{DiskSeen, Tells}
 use Rattle.at_edge.specs.declared.ending.Served.{Served}
@@ -41,11 +44,12 @@ status_of_pipe (fails.Unopened fail) = status_of_opening fail
 status_of_pipe (fails.Ended fail) = status_of_session fail
 
 -- a store just opened that one caller alone has: its calls are those of pass 1, nothing is in doubt, and it had no turn
-abbrev pub opened_alone : (host : ℕ) → (key : List ℕ) → List Event → (faults : ℕ) → StoreSeen
-opened_alone host key events faults = record {
+abbrev pub opened_alone : (host : ℕ) → (key : List ℕ) → List Event → (opened : DiskSeen) → StoreSeen
+opened_alone host key events opened = record {
   fixed = record { keyed = keyed_store record_sealing host key; has_key = true; number = 1; alone = true };
-  state = record { entries = opened_journal events; doubt = []; faults = faults };
+  state = record { entries = opened_journal events; doubt = []; faults = opened.faults };
   turns = Some [];
+  history = opened.history;
 }
 
 -- where the source tells what is left in it, the end is that of those bytes
@@ -63,6 +67,13 @@ pub record LeavesStore (host : ℕ) (last : StoreSeen) (old new : DiskSeen) : Ty
   pub doubts : last.state.doubt ≢ [] → Tells new (DoubtsJournal host last.state.entries last.state.doubt)
   pub counted : last.state.doubt ≢ [] → Rose old.faults new.faults
 
+-- What a crash at any moment leaves of a session, whose turns these were. Wherever it is cut in two, what was answered before stays. Since its start whatever a crash may have
+-- left might have been left then, or stands for a journal that begins with the opened one, and goes no further than what the session leaves, with what is in doubt.
+pub record CrashKeeps (host : ℕ) (first last : StoreState) (turns : List RunTurn) (old opened new : Option History) : Type 0 where
+  pub opening : LeavesNoMore old opened
+  pub stays : (answered more : List RunTurn) → turns ≡ answered ++ more → AnswersStay host first answered more opened new
+  pub since : LeftSinceOrThen (IsBetween host first.entries (with_doubt last)) old new
+
 -- The session began at the journal of the events that the disk showed, and the disk holds what it leaves.
 pub record PipesSession (outcome : Result Served SessionFail) (key : List ℕ) (old new : DiskSeen) (before after : Supplies) (from to : Pipe) : Type 0 where
   pub host : ℕ
@@ -70,9 +81,10 @@ pub record PipesSession (outcome : Result Served SessionFail) (key : List ℕ) (
   pub opened : DiskSeen
   pub keeps : KeepsLog host events old opened
   pub last : StoreSeen
-  pub serves : ServesAlone outcome (opened_alone host key events opened.faults) last before after from to
+  pub serves : ServesAlone outcome (opened_alone host key events opened) last before after from to
   pub ends : EndsAsTold outcome from
   pub leaves : LeavesStore host last old new
+  pub crash : CrashKeeps host (opened_alone host key events opened).state last.state serves.runs.turns old.history opened.history new.history
   pub faults : CountsFaults serves.serves.replies old new before after
 
 -- no store was opened, for that cause, and nothing but the disk was asked

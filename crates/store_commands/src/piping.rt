@@ -62,6 +62,10 @@ pub struct Piped<D> {
 /// Serves the requests that the source gives, over the store that stands on the disk and this text of its key, until the
 /// source ends. It never waits but for the source and the sink. The disk then holds the journal that the session leaves.
 ///
+/// A crash at any moment leaves the journal that the disk showed, with all that was answered before that moment; of the
+/// request under way it leaves what is committed for it whole or not at all. Until the store is open it leaves nothing that
+/// it might not have left before.
+///
 /// # Errors
 ///
 /// [`PipeFail::FaultyKeyText`] exactly where the text tells no key, before anything else is asked; [`PipeFail::Unopened`], with

@@ -1,3 +1,4 @@
+pub mod Leaving
 pub mod Telling
 pub mod Opened
 pub mod Paging

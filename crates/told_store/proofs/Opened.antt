@@ -6,6 +6,7 @@ use Rattle.state_notes.specs.Notes.{StoreNote}
 use Rattle.store_core.specs.Store.{StoreSeen}
 use Rattle.store_core.specs.Opening.{OpensStore}
 use Rattle.told_store.specs.Opening.{OpensTold}
+use Rattle.told_store.proofs.Leaving.{state_leaves}
 
 -- the note of the journal that the disk showed
 pub opened_note : (noted old : DiskSeen) (store : StoreSeen) → noted ≡ old → OpensStore old store → (note : StoreNote) × OpensTold noted store note
@@ -16,6 +17,7 @@ opened_note noted old store same opens =
       first = record { told = record { is = opens.is; counted = refl }; none = refl };
       entries = refl;
       settled = refl;
+      leaves = state_leaves store note.state opens.is;
       shown = opens.shown;
       synced = opens.synced;
     } in

@@ -25,6 +25,7 @@ use Rattle.store_core.specs.Store.{StoreSeen, IsStoreOf}
 use Rattle.store_core.specs.Calls.{TakesPage}
 use Rattle.store_core.specs.Pages.{page_answer_seen, TellsPage}
 use Rattle.store_core.proofs.Standing.{tells_map}
+use Rattle.told_store.proofs.Leaving.{turn_leaves}
 use Rattle.told_store.specs.Told.{IsTold, HasRested, turn_between}
 use Rattle.told_store.specs.Asked.{PageTold, HasRead, AnswersRead, status_answer_seen, read_answer_seen}
 
@@ -38,9 +39,9 @@ fault_told (Err takes.DiskFault) e = refl
 fault_told (Err takes.NoMemory) e = absurd cc
 
 page_note : (was : StoreSeen) (before : StoreNote) (store : StoreSeen) (caller : Caller) (owner : ℕ) (records : List SealedRecord) (answer : Result ℕ TakeFail) → IsTold was before → TakesPage was store caller owner records (page_answer_seen answer)
-    → (answer ≡ Err takes.DiskFault → Rose was.log.disk.faults store.log.disk.faults) → was.log.disk.faults ≤ store.log.disk.faults
+    → (answer ≡ Err takes.DiskFault → Rose was.log.disk.faults store.log.disk.faults) → was.log.disk.faults ≤ store.log.disk.faults → store.log.host ≡ was.log.host
     → (note : StoreNote) × PageTold was before store note caller owner records (page_answer_seen answer)
-page_note was before store caller owner records answer told takes faulted kept =
+page_note was before store caller owner records answer told takes faulted kept host =
     let turned = takes before.state.entries before.state.doubt told.is in
     let state : StoreState = record { entries = turned.0; doubt = turned.1; faults = store.log.disk.faults } in (
       record { state = state; turns = before.turns ++ turn_between before.state state ∷ [] },
@@ -52,16 +53,16 @@ page_note was before store caller owner records answer told takes faulted kept =
           told = λ e. subst (λ (n : ℕ). Rose n store.log.disk.faults) (sym told.counted) (faulted (fault_told answer e));
         };
         added = refl;
-        leaves = turned.4;
+        leaves = turn_leaves was.log store before.state state turned.4 turned.2 host;
       },
     )
 
 -- the same of what was noted before the call
 pub page_note_of : (noted was : StoreSeen) (before : StoreNote) (store : StoreSeen) (caller : Caller) (owner : ℕ) (records : List SealedRecord) (answer : Result ℕ TakeFail) → noted ≡ was → IsTold was before
-    → TakesPage was store caller owner records (page_answer_seen answer) → (answer ≡ Err takes.DiskFault → Rose was.log.disk.faults store.log.disk.faults) → was.log.disk.faults ≤ store.log.disk.faults
+    → TakesPage was store caller owner records (page_answer_seen answer) → (answer ≡ Err takes.DiskFault → Rose was.log.disk.faults store.log.disk.faults) → was.log.disk.faults ≤ store.log.disk.faults → store.log.host ≡ was.log.host
     → (note : StoreNote) × PageTold noted before store note caller owner records (page_answer_seen answer)
-page_note_of noted was before store caller owner records answer here told takes faulted kept =
-    let made = page_note was before store caller owner records answer told takes faulted kept in
+page_note_of noted was before store caller owner records answer here told takes faulted kept host =
+    let made = page_note was before store caller owner records answer told takes faulted kept host in
     (made.0, subst (λ (s : StoreSeen). PageTold s before store made.0 caller owner records (page_answer_seen answer)) (sym here) made.1)
 
 -- ---- reads

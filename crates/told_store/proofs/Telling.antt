@@ -33,6 +33,7 @@ use Rattle.store_tables.specs.declared.tables.Tables.{Tables}
 use Rattle.store_tables.specs.declared.tables.Batch.{Batch}
 use Rattle.store_core.specs.Store.{StoreSeen, IsStoreOf, entries_of, doubted, LogMeans, HasRoomForDoubt}
 use Rattle.store_core.specs.Calls.{AsksUsing}
+use Rattle.told_store.proofs.Leaving.{turn_leaves}
 use Rattle.told_store.specs.Told.{IsTold, IsFirst, HasRested, CallTold, keyed_by, turn_between, HoldsEntries, DoubtsEntries}
 
 -- the note of a store that is of this journal, with no turn so far
@@ -139,7 +140,7 @@ call_note was before store supplied supplies caller call reply keyed fits told a
         front = front_told (keyed_by was) before.state.entries before.state.doubt caller call used after doubt_after reply turn;
         within = turn_within (keyed_by was) before.state.entries before.state.doubt caller call used after doubt_after reply weighs fits sound turn;
         added = refl;
-        leaves = turned.4;
+        leaves = turn_leaves was.log store before.state state turned.4 turned.2 host;
       },
     )
 

@@ -7,6 +7,7 @@ use Rattle.step_rules.specs.PageTurns.{PageAnswer}
 use Rattle.step_rules.specs.ReadTurns.{StoreRead, ReadAnswer, told_status, told_page, read_faulted, read_no_memory, ReadTurn}
 use Rattle.session_rules.specs.Sessions.{a_page, to_page}
 use Rattle.session_rules.specs.Stores.{StoreTurn}
+use Rattle.session_crashes.specs.Crashes.{TurnLeaves}
 use Rattle.record_model.specs.declared.places.Chain.{Chain}
 use Rattle.record_model.specs.declared.sealed.Record.{Record}
 use Rattle.record_model.specs.Seen.{chains_seen, records_seen}
@@ -14,18 +15,17 @@ use Rattle.record_log.specs.declared.reading.ReadFail.{ReadFail}
 use Rattle.record_log.specs.declared.reading.ReadFail.TheVariants.{DiskFault, NoMemory}
 use Rattle.state_notes.specs.Notes.{StoreNote}
 use Rattle.store_core.specs.Store.{StoreSeen}
-use Rattle.store_core.specs.Calls.{LeavesByTurn}
 use Rattle.told_store.specs.Told.{IsTold, AddsTurn, keyed_by}
 
 -- ---- a page that comes in
 
--- The page was one turn, from the state that was noted to the one that is, and used neither random source nor clock. A crash on the way leaves no
--- other journal than these.
+-- The page was one turn, from the state that was noted to the one that is, and used neither random source nor clock. A crash on the way leaves the
+-- one or the other, and at its end that one.
 pub record PageTold (was : StoreSeen) (before : StoreNote) (store : StoreSeen) (after : StoreNote) (caller : Caller) (owner : ℕ) (records : List SealedRecord) (answer : PageAnswer) : Type 0 where
   pub told : IsTold store after
   pub turn : StoreTurn (keyed_by was) before.state caller (a_page owner records) used_nothing after.state (to_page answer)
   pub added : AddsTurn before after
-  pub leaves : LeavesByTurn was.log store.log before.state.entries before.state.doubt after.state.entries after.state.doubt
+  pub leaves : TurnLeaves was.log.host before.state after.state was.log.disk.history store.log.disk.history
 
 -- ---- reads
 

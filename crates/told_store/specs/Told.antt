@@ -15,11 +15,11 @@ use Rattle.session_rules.specs.Sessions.{a_call, to_call}
 use Rattle.session_rules.specs.Passes.{TurnItem}
 use Rattle.session_rules.specs.Stores.{StoreState, StoreTurn}
 use Rattle.session_rules.specs.Within.{ShowsWithin}
+use Rattle.session_crashes.specs.Crashes.{TurnLeaves}
 use Rattle.record_seal.proofs.StoreSealing.{record_sealing}
 use Rattle.call_supplies.specs.Supplies.{Supplies, Uses}
 use Rattle.state_notes.specs.Notes.{StoreNote}
 use Rattle.store_core.specs.Store.{StoreSeen, IsStoreOf}
-use Rattle.store_core.specs.Calls.{LeavesByTurn}
 
 -- the store, and what is noted of it
 pub record ToldSeen : Type 0 where
@@ -53,7 +53,7 @@ pub record HasRested (before after : StoreNote) : Type 0 where
   pub turn : AddsTurn before after
 
 -- The call was one turn, from the state that was noted to the one that is. It used so much, its answer shows as little as a reply may, and a
--- crash on the way leaves no other journal than these.
+-- crash on the way leaves the one or the other, and at its end that one.
 pub record CallTold (was : StoreSeen) (before : StoreNote) (store : StoreSeen) (after : StoreNote) (supplied supplies : Supplies) (caller : Caller) (call : Call) (reply : Reply) : Type 0 where
   pub told : IsTold store after
   pub used : Used
@@ -62,7 +62,7 @@ pub record CallTold (was : StoreSeen) (before : StoreNote) (store : StoreSeen) (
   pub front : reply.front ≡ length after.state.entries
   pub within : ShowsWithin reply.answer
   pub added : AddsTurn before after
-  pub leaves : LeavesByTurn was.log store.log before.state.entries before.state.doubt after.state.entries after.state.doubt
+  pub leaves : TurnLeaves was.log.host before.state after.state was.log.disk.history store.log.disk.history
 
 -- the disk holds the log of these entries
 abbrev pub HoldsEntries : (host : ℕ) → List Entry → Disk → Type 0

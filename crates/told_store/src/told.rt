@@ -5,6 +5,7 @@ ghost use Rattle.record_rules.specs.Records.{Entry};
 ghost use Rattle.record_model.specs.Seen.{caller_seen};
 ghost use Rattle.model_words.specs.Seen.{call_seen, reply_seen};
 ghost use Rattle.step_rules.specs.Calls.{CallFits};
+ghost use Rattle.session_crashes.specs.Crashes.{LeavesState};
 ghost use Rattle.call_supplies.specs.Supplies.{supplies};
 ghost use Rattle.store_core.specs.Store.{IsStoreOf};
 ghost use Rattle.told_store.specs.Told.{IsTold, HasRested, CallTold, HoldsEntries, DoubtsEntries};
@@ -110,11 +111,13 @@ impl<D: Disk> ToldStore<D> {
         Store::front(&self.store)
     }
 
-    /// The number of entries, in a turn that asks nothing else. It takes no memory.
+    /// The number of entries, in a turn that asks nothing else. A crash now leaves the journal that is noted, or that with
+    /// what is in doubt behind it. It takes no memory.
     pub fn front(&mut self) -> u64
         ensures rests { HasRested self.old.note self.new.note }
         ensures front { result ≡ length self.new.note.state.entries }
         ensures store { self.new.store ≡ self.old.store }
+        ensures leaves { LeavesState self.new.store.log.host self.new.note.state self.new.store.log.disk.history }
     {
         let noted = NotedStore::chosen(&Rested {
             before: &self.noted,

@@ -1,4 +1,5 @@
-use Rattle.std.proofs.Common.{Ok, Err, sym}
+use Rattle.std.proofs.Common.{Ok, Err, sym, ap}
+use Rattle.at_edge.specs.Storing.{DiskSeen}
 use Rattle.call_supplies.specs.Supplies.{supplies}
 use Rattle.session_seats.specs.Sessions.{pipe}
 use Rattle.store_commands.proofs.PipedSession.{pipes_session}
@@ -19,7 +20,7 @@ returns-in-Ok-serve_alone g c =
         (
           served,
           pipes_session (Ok served) c.in-Some.key (g.D.Disk.disk c.args.disk) (g.D.Disk.disk c.into_disk.result) c.in-Ok.store new.store.store before after from to
-              c.in-Ok.ensures.opens c.in-Ok.ensures.settled c.in-Ok.ensures.key c.in-Ok-serve_alone.ensures.serves c.in-Ok-serve_alone.ensures.ends (record { holds = left.holds; doubts = left.doubts; counted = left.counted }),
+              c.in-Ok.ensures.opens c.in-Ok.ensures.settled c.in-Ok.ensures.key c.in-Ok.ensures.crash c.in-Ok-serve_alone.ensures.serves c.in-Ok-serve_alone.ensures.ends (record { holds = left.holds; doubts = left.doubts; counted = left.counted; history = ap (λ (d : DiskSeen). d.history) (sym left.disk) }),
         ),
       ),
     )
@@ -37,6 +38,6 @@ returns-in-Err-serve_alone g c =
       (
         sym c.in-Some.ensures,
         pipes_session (Err fail) c.in-Some.key (g.D.Disk.disk c.args.disk) (g.D.Disk.disk c.into_disk-in-Err-serve_alone.result) c.in-Ok.store new.store.store before after from to
-            c.in-Ok.ensures.opens c.in-Ok.ensures.settled c.in-Ok.ensures.key c.in-Err-serve_alone.ensures.serves c.in-Err-serve_alone.ensures.ends (record { holds = left.holds; doubts = left.doubts; counted = left.counted }),
+            c.in-Ok.ensures.opens c.in-Ok.ensures.settled c.in-Ok.ensures.key c.in-Ok.ensures.crash c.in-Err-serve_alone.ensures.serves c.in-Err-serve_alone.ensures.ends (record { holds = left.holds; doubts = left.doubts; counted = left.counted; history = ap (λ (d : DiskSeen). d.history) (sym left.disk) }),
       ),
     )

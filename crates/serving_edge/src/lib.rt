@@ -2,8 +2,8 @@
 //!
 //! Model: a connection is a source and a sink. A listener shows one record, `ListenerSeen`, of the connections that are
 //! still to come, the one that is out, those that were handed back, and its count of faults; what it doesn't tell is `None`
-//! there, and nothing is claimed of it. A worker means a relation of its kind between how it was and how its work leaves
-//! it. A spawner has a count of refusals, and a pacer one of rounds.
+//! there, and nothing is claimed of it. A worker means how it has to be for its work to begin, and a relation of
+//! its kind between how it was and how its work leaves it. A spawner has a count of refusals, and a pacer one of rounds.
 //!
 //! Promise: each form here, in memory or over the real thing, meets its trait. A connection is accepted once and in order,
 //! handed back once, and never while another is out; a spawner that answers Ok says of each worker, in its place, that its

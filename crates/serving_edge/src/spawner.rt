@@ -1,6 +1,6 @@
 // What grants threads to workers, and how they are then run.
 
-ghost use Rattle.std.specs.Prelude.{◌<◌};
+ghost use Rattle.std.specs.Prelude.{◌<◌, All};
 ghost use Rattle.serving_edge.specs.Working.{InPlace, RunsAll};
 
 use crate::Worker;
@@ -29,8 +29,8 @@ pub trait Spawner {
         ensures { GrantsThreads (refusals self.old) (refusals self.new) result };
 }
 
-/// Runs the workers beside each other, in as many threads as are granted, and returns when all have ended. Where the system
-/// gives fewer threads, some run one after the other, and no clause says so.
+/// Runs the workers beside each other, in as many threads as are granted, and returns when all have ended. Each is ready to
+/// work. Where the system gives fewer threads, some run one after the other, and no clause says so.
 ///
 /// # Errors
 ///
@@ -40,6 +40,7 @@ pub fn run_all<R: Threads + Wait + Sync, P: Spawner, W: Worker + Send>(
     spawner: &mut P,
     workers: &mut [W],
 ) -> Result<(), SpawnFault>
+    requires { All W.ready workers.old }
     ensures { RunsAll W.worked (P.refusals spawner.old) (P.refusals spawner.new) workers.old workers.new result }
 {
     match spawner.grant(workers.len()) {
@@ -53,7 +54,8 @@ pub fn run_all<R: Threads + Wait + Sync, P: Spawner, W: Worker + Send>(
 
 /// Runs the workers in at most so many threads. Each works once.
 fn run_in<R: Threads + Wait + Sync, W: Worker + Send>(rt: &R, workers: &mut [W], threads: usize)
-    requires { 0 < threads }
+    requires threads { 0 < threads }
+    requires ready { All W.ready workers.old }
     ensures { InPlace W.worked workers.old workers.new }
 {
     if workers.is_empty() {
@@ -64,6 +66,7 @@ fn run_in<R: Threads + Wait + Sync, W: Worker + Send>(rt: &R, workers: &mut [W],
         workers,
         threads,
         &|_: usize, worker: &mut W|
+            requires { W.ready worker.old }
             ensures { W.worked worker.old worker.new }
         { worker.work(rt) },
     );

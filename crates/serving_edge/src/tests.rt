@@ -74,6 +74,8 @@ struct Note {
 }
 
 impl Worker for Note {
+    ghost ready = { λ _. Unit {0} };
+
     ghost worked = { λ before after. after.is_done ≡ true };
 
     fn work<R: Threads + Wait + Sync>(&mut self, _rt: &R) {

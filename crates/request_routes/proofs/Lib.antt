@@ -1,0 +1,4 @@
+pub mod Asking
+mod Bodies
+mod Digits
+mod Values

@@ -1,0 +1,4 @@
+pub mod Openings
+pub mod Serving
+pub mod PassViews
+pub mod Seats

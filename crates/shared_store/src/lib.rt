@@ -21,3 +21,6 @@ pub use book::{SharedBook, the_fixed_part_tells_host_and_key};
 pub use book_lock::SplitFail;
 pub use caller::SharedCaller;
 pub use shared::{Pass, SharedStore};
+
+#[cfg(test)]
+mod tests;

@@ -1,1 +1,4 @@
 mod Fits
+mod Numbers
+mod Causes
+mod Exact

@@ -11,8 +11,10 @@ ghost use Rattle.std.specs.Prelude.{◌≡◌, ◌≢◌};
 ghost use Rattle.statuses.specs.declared.Status.TheVariants as statuses;
 
 mod folder;
+mod laws;
 mod top;
 
+pub use laws::{each_cause_is_told, each_number_is_of_a_status, each_number_tells_its_cause};
 pub use top::{Ended, run_once};
 
 #[cfg(test)]

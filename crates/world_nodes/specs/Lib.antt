@@ -1,0 +1,4 @@
+pub mod Nodes
+pub mod Random
+pub mod Faults
+pub mod Events

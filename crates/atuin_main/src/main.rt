@@ -18,6 +18,8 @@ pub use laws::{each_cause_is_told, each_number_is_of_a_status, each_number_tells
 pub use top::{Ended, run_once};
 
 #[cfg(test)]
+mod session_tests;
+#[cfg(test)]
 mod tests;
 
 use at_edge::{AbsentLink, FileDisk, ReadSource, SystemClock, SystemEntropy, WriteSink};

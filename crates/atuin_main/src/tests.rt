@@ -9,16 +9,17 @@ use std::process::Abort;
 use std::test::*;
 use std::thread::Threads;
 
-const KEY: &[u8] = b"707172737475767778797a7b7c7d7e7f808182838485868788898a8b8c8d8e8f\n";
+pub(crate) const KEY: &[u8] = b"707172737475767778797a7b7c7d7e7f808182838485868788898a8b8c8d8e8f\n";
 
 /// Behind the eight bytes that tell a log's form: host 1, eight zero bytes, an open gate, and the length of the first body.
-const HOST: &[u8] = b"\0\0\0\0\0\0\0\0\0\0\0\0\0\0\0\x01\0\0\0\0\0\0\0\0";
+pub(crate) const HOST: &[u8] = b"\0\0\0\0\0\0\0\0\0\0\0\0\0\0\0\x01\0\0\0\0\0\0\0\0";
 
 /// An open gate and a body: `ls` begins in `/`, in session `s1`, on `h:u`.
-const STARTED: &[u8] =
+pub(crate) const STARTED: &[u8] =
     b"\x01\0\0\0\x35\0\0\0\x01\x01\x01\x8b\xcf\xe5\x68\x00\x70\x01\x82\x03\x04\x05\x06\x07\x08\x09\x17\x97\x9c\xfe\x36\x2a\0\0\0\0\0\x02ls\0\0\0\x01/\0\0\0\x02s1\0\0\0\x03h:u";
 
-const STARTED_DIGEST: &[u8] = b"\xf7\xdf\x43\x2f\x11\xae\x16\x44\xa5\xc2\xb6\x25\xe7\x4d\xcf\x75";
+pub(crate) const STARTED_DIGEST: &[u8] =
+    b"\xf7\xdf\x43\x2f\x11\xae\x16\x44\xa5\xc2\xb6\x25\xe7\x4d\xcf\x75";
 
 /// An open gate and a body up to its sealed texts: it ends.
 const ENDED: &[u8] =
@@ -32,20 +33,21 @@ const WRAPPED: &[u8] =
 
 const ENDED_DIGEST: &[u8] = b"\xeb\x9e\xc5\xe1\xe2\x23\xe3\x58\x55\x00\xa4\x44\xba\x88\xef\x9e";
 
-const START: &[u8] = b"\0\0\0\x0e\x95\x01\xa2ls\xa1/\xa2s1\xa3h:u";
+pub(crate) const START: &[u8] = b"\0\0\0\x0e\x95\x01\xa2ls\xa1/\xa2s1\xa3h:u";
 
-const END: &[u8] = b"\0\0\0\x28\x94\x02\xd9\x20018bcfe5680070018203040506070809\xcd\x03\xe8\0";
+pub(crate) const END: &[u8] =
+    b"\0\0\0\x28\x94\x02\xd9\x20018bcfe5680070018203040506070809\xcd\x03\xe8\0";
 
 const SEARCH: &[u8] = b"\0\0\0\x09\x98\x04\0\0\xa0\xa0\0\0\x0a";
 
-const BEGUN: &[u8] = b"\0\0\0\x25\x93\0\x01\xd9\x20018bcfe5680070018203040506070809";
+pub(crate) const BEGUN: &[u8] = b"\0\0\0\x25\x93\0\x01\xd9\x20018bcfe5680070018203040506070809";
 
-const STORED: &[u8] = b"\0\0\0\x04\x93\0\x02\0";
+pub(crate) const STORED: &[u8] = b"\0\0\0\x04\x93\0\x02\0";
 
 const FOUND: &[u8] =
     b"\0\0\0\x40\x93\0\x02\x91\x98\xd9\x20018bcfe5680070018203040506070809\xcf\x17\x97\x9c\xfe\x36\x2a\0\0\xcd\x03\xe8\0\xa2ls\xa1/\xa2s1\xa3h:u";
 
-fn joined(alloc: Global, parts: &[&[u8]]) -> Result<Vec<u8>, AllocError> {
+pub(crate) fn joined(alloc: Global, parts: &[&[u8]]) -> Result<Vec<u8>, AllocError> {
     let mut all = Vec::new(alloc);
     for part in parts {
         all.extend_from_slice(part)?;
@@ -54,7 +56,7 @@ fn joined(alloc: Global, parts: &[&[u8]]) -> Result<Vec<u8>, AllocError> {
 }
 
 /// A disk of these bytes.
-fn disk_of(alloc: Global, parts: &[&[u8]]) -> Result<MemDisk, Fail> {
+pub(crate) fn disk_of(alloc: Global, parts: &[&[u8]]) -> Result<MemDisk, Fail> {
     Ok(MemDisk::new(alloc, joined(alloc, parts)?, Vec::new(alloc))?)
 }
 
@@ -91,15 +93,15 @@ fn old_log(alloc: Global) -> Result<MemDisk, Fail> {
 
 /// What a command left.
 #[derive(Drop)]
-struct Outcome {
-    status: u8,
-    written: Vec<u8>,
-    disk: MemDisk,
-    second: MemDisk,
+pub(crate) struct Outcome {
+    pub(crate) status: u8,
+    pub(crate) written: Vec<u8>,
+    pub(crate) disk: MemDisk,
+    pub(crate) second: MemDisk,
 }
 
 /// Runs `FOLDER` and these words over an input and a disk, where the second disk is empty.
-fn ran<R: AllocGlobal + Threads + Sync>(
+pub(crate) fn ran<R: AllocGlobal + Threads + Sync>(
     rt: &R,
     words: &[&str],
     key_text: &[u8],
@@ -146,7 +148,7 @@ fn ran<R: AllocGlobal + Threads + Sync>(
 }
 
 /// Sees that `pipe` over a new log gives this output and status.
-fn check<R: AllocGlobal + Abort + Threads + Sync>(
+pub(crate) fn check<R: AllocGlobal + Abort + Threads + Sync>(
     rt: &R,
     input: &[&[u8]],
     output: &[&[u8]],

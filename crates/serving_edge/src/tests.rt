@@ -187,7 +187,7 @@ fn sent_back_by_two<R: Files<File = File> + Net>(
 #[test]
 fn a_socket_gives_way_only_where_nobody_listens(rt: HostRuntime) -> Result<(), Fail> {
     let alloc = rt.alloc();
-    let path = format!(in alloc; "/tmp/serving_edge_{}", process::id(rt.process()))?;
+    let path = format!(in alloc; "serving_edge_{}", process::id(rt.process()))?;
     let lock = format!(in alloc; "{path}.lock")?;
     assert!(rt; leaves_a_file(&rt, alloc, &path)?);
     assert!(rt; mode_in_use(&rt, alloc, &path)? == Some(0o600));
